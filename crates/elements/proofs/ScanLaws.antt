@@ -1,0 +1,87 @@
+-- The code's tests of one element, and what a pass over the first elements found (specs/Scan.antt). By cases on the sign, and by induction
+-- on how many elements have been passed. Assumes nothing.
+--     taken-low, taken-high, taken-between     an element below -128, above 127, in between
+--     allTaken-none, allTaken-next             no element yet; one element more, as the code computes it
+--     allTaken-at, allTaken-all                a pass that found no fault took each element, and back
+use Prim.Native.Nat.{ℕ, zero, suc, _+_, _^_, _<_}
+use mathlib.Core.Path.{_≡_, refl, sym, ap, _∙_}
+use mathlib.Core.Bool.{Bool, true, false, _&&_}
+use mathlib.Core.List.{List}
+use native.Mathlib.Nat.{not-suc-le-zero}
+use native.Mathlib.Decide.{ℕ-discrete}
+use native.Mathlib.Numerals.{add-one}
+use native.Mathlib.Omega.{arith}
+use lib.IntN.{ℤ, pos, negsuc}
+use lib.ListN.{getD}
+use lib.Signed.{mag, ltZ, leZ}
+use borrow.Author.Tests.{ltb-true, ltb-false, le-leb, lt-leb}
+use mir.Syntax.{w16}
+use mir.Val.{toZ, ofZ}
+use mir.Facts.{toZ-ofZ}
+use Rattle.elements.specs.Values.{valueTaken}
+use Rattle.elements.specs.Scan.{allTaken}
+use Rattle.elements.proofs.ValueLaws.{and-true, Taken}
+
+-- ---- one element
+
+low-fault : (z : ℤ) → ltZ z (negsuc 127) ≡ true → valueTaken 0 z ≡ false
+unfolding valueTaken
+low-fault (pos n) e = cc
+low-fault (negsuc n) e = rw (lt-leb n 127 (ltb-true 127 n e))
+
+high-fault : (z : ℤ) → ltZ (pos 127) z ≡ true → valueTaken 0 z ≡ false
+unfolding valueTaken
+high-fault (pos n) e = lt-leb n 127 (ltb-true 127 n e)
+high-fault (negsuc n) e = cc
+
+no-fault : (z : ℤ) → ltZ z (negsuc 127) ≡ false → ltZ (pos 127) z ≡ false → valueTaken 0 z ≡ true
+unfolding valueTaken
+no-fault (pos n) e f = le-leb n 127 (ltb-false 127 n f)
+no-fault (negsuc n) e f = rw (le-leb n 127 (ltb-false 127 n e))
+
+-- an element as the code reads it
+module _ (z : ℤ) (m : mag z < 2 ^ 15) where
+  read : toZ w16 (ofZ w16 z) ≡ z
+  read = toZ-ofZ (record { sfits = m })
+
+  pub taken-low : ltZ (toZ w16 (ofZ w16 z)) (negsuc 127) ≡ true → valueTaken 0 z ≡ false
+  taken-low e = low-fault z (sym (ap (λ (v : ℤ). ltZ v (negsuc 127)) read) ∙ e)
+
+  pub taken-high : ltZ (pos 127) (toZ w16 (ofZ w16 z)) ≡ true → valueTaken 0 z ≡ false
+  taken-high e = high-fault z (sym (ap (λ (v : ℤ). ltZ (pos 127) v) read) ∙ e)
+
+  pub taken-between : ltZ (toZ w16 (ofZ w16 z)) (negsuc 127) ≡ false → ltZ (pos 127) (toZ w16 (ofZ w16 z)) ≡ false → valueTaken 0 z ≡ true
+  taken-between e f = no-fault z (sym (ap (λ (v : ℤ). ltZ v (negsuc 127)) read) ∙ e) (sym (ap (λ (v : ℤ). ltZ (pos 127) v) read) ∙ f)
+
+-- ---- a pass over the first n elements
+
+pub allTaken-none : (p : ℕ) (zs : List ℤ) → true ≡ allTaken p zs 0
+unfolding allTaken
+allTaken-none p zs = refl
+
+and-assoc : (a b c : Bool) → a && b && c ≡ a && (b && c)
+and-assoc true b c = refl
+and-assoc false b c = refl
+
+-- the code's flag after one element more
+pub allTaken-next : (zs : List ℤ) (n : ℕ) (all : Bool) → mag (getD zs n (pos 0)) < 2 ^ 15 → all ≡ allTaken 0 zs n
+    → all && leZ (negsuc 127) (toZ w16 (ofZ w16 (getD zs n (pos 0)))) && leZ (toZ w16 (ofZ w16 (getD zs n (pos 0)))) (pos 127) ≡ allTaken 0 zs (n + 1)
+unfolding allTaken valueTaken
+allTaken-next zs n all m e =
+    and-assoc all _ _
+    ∙ ap (λ (v : ℤ). all && (leZ (negsuc 127) v && leZ v (pos 127))) (read (getD zs n (pos 0)) m)
+    ∙ ap (λ (t : Bool). t && valueTaken 0 (getD zs n (pos 0))) e
+    ∙ ap (λ (k : ℕ). allTaken 0 zs k) (sym (add-one n))
+
+pub allTaken-at : (p : ℕ) (zs : List ℤ) (n : ℕ) → allTaken p zs n ≡ true → Taken p zs n
+unfolding allTaken
+allTaken-at p zs zero e j h = absurd (not-suc-le-zero h)
+allTaken-at p zs (suc n) e j h =
+    let both = and-true (allTaken p zs n) (valueTaken p (getD zs n (pos 0))) e in
+    elim (ℕ-discrete j n) [ yes k ↦ rw k (both .1) | no k ↦ allTaken-at p zs n (both .0) j (omega (arith, k)) ]
+
+-- and back
+pub allTaken-all : (p : ℕ) (zs : List ℤ) (n : ℕ) → Taken p zs n → allTaken p zs n ≡ true
+unfolding allTaken
+allTaken-all p zs zero h = refl
+allTaken-all p zs (suc n) h = rw (allTaken-all p zs n (λ j b. h j (omega arith)), h n (omega arith))

@@ -1,0 +1,42 @@
+-- Lists that come nearer to a goal list: every entry is as it was or as it is in the goal. Each store of a goal's entry is such a step, steps
+-- compose, and an entry that has reached the goal stays there, so what a nest of loops leaves is known from the entries that it reached. Assumes nothing.
+--     Toward            a list after such steps
+--     toward-refl, toward-trans     no step; steps after steps
+--     toward-set, reached-set       one store of the goal's entry
+--     reached-kept      an entry that has reached the goal stays there
+use Prim.Native.Nat.{ℕ, _<_}
+use native.Mathlib.Decide.{ℕ-discrete}
+use mathlib.Core.Path.{_≡_, refl, sym, ap, _∙_, subst}
+use mathlib.Core.Logic.{_⊎_, inl, inr, ⊎-elim}
+use mathlib.Core.List.{List}
+use lib.ListN.{length, getD, set, length-set}
+use lib.Seq.{getD-set-same, getD-set-other}
+
+module _ {A : Type 0} (d : A) (goal : List A) where
+  -- from `before` to `after` every entry stays or reaches the goal's
+  pub record Toward (before after : List A) : Type 0 where
+    pub long : length after ≡ length before
+    pub each : (p : ℕ) → (getD after p d ≡ getD before p d) ⊎ (getD after p d ≡ getD goal p d)
+
+  pub toward-refl : (l : List A) → Toward l l
+  toward-refl l = record { long = refl; each = λ p. inl refl }
+
+  pub toward-trans : {l₁ l₂ l₃ : List A} → Toward l₁ l₂ → Toward l₂ l₃ → Toward l₁ l₃
+  toward-trans {l₁} {l₂} {l₃} a b =
+      record {
+        long = b .long ∙ a .long;
+        each = λ p. ⊎-elim (λ i. ⊎-elim (λ j. inl (i ∙ j)) (λ j. inr (i ∙ j)) (a .each p)) (λ i. inr i) (b .each p);
+      }
+
+  pub toward-set : (l : List A) (i : ℕ) (v : A) → i < length l → v ≡ getD goal i d → Toward l (set l i v)
+  toward-set l i v h e =
+      record {
+        long = length-set l i v;
+        each = λ p. elim (ℕ-discrete p i) [ yes s ↦ inr (ap (λ (k : ℕ). getD (set l i v) k d) s ∙ getD-set-same l i v d h ∙ e ∙ ap (λ (k : ℕ). getD goal k d) (sym s)) | no f ↦ inl (getD-set-other l i p v d f) ];
+      }
+
+  pub reached-set : (l : List A) (i : ℕ) (v : A) → i < length l → v ≡ getD goal i d → getD (set l i v) i d ≡ getD goal i d
+  reached-set l i v h e = getD-set-same l i v d h ∙ e
+
+  pub reached-kept : {l₁ l₂ : List A} → Toward l₁ l₂ → (p : ℕ) → getD l₁ p d ≡ getD goal p d → getD l₂ p d ≡ getD goal p d
+  reached-kept a p e = ⊎-elim (λ i. i ∙ e) (λ i. i) (a .each p)

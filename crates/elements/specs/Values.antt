@@ -1,0 +1,27 @@
+-- Which elements a precision takes (scope paper, "Refusal numbers", 7). Assumes nothing.
+use Prim.Native.Nat.{ℕ, zero, suc}
+use mathlib.Core.Bool.{Bool, true, _&&_}
+use mathlib.Core.List.{List, [], _∷_}
+use lib.IntN.{ℤ, pos, negsuc}
+use lib.Signed.{leZ}
+use Rattle.refusal.specs.declared.Refusal.the-variants.{Int8Range}
+use Rattle.refusal.specs.declared.Answer.{Answer}
+use Rattle.refusal.specs.Checks.{requireAt}
+
+-- an int8 element lies in -128..127 (`negsuc 127` is -128); the other precisions take every 16-bit element
+unfoldable pub valueTaken : ℕ → ℤ → Bool
+valueTaken zero z = leZ (negsuc 127) z && leZ z (pos 127)
+valueTaken (suc p) z = true
+
+-- the check of the element at index i
+unfoldable pub valueCheck : ℕ → ℕ → ℤ → Answer
+valueCheck p i z = requireAt i Int8Range (valueTaken p z)
+
+-- the checks of all elements in order, the first at index i
+unfoldable pub valueChecksFrom : ℕ → ℕ → List ℤ → List Answer
+valueChecksFrom p i [] = []
+valueChecksFrom p i (z ∷ zs) = valueCheck p i z ∷ valueChecksFrom p (suc i) zs
+
+-- the checks of all elements in order: the first refusal has the least index at fault
+unfoldable pub valueChecks : ℕ → List ℤ → List Answer
+valueChecks p zs = valueChecksFrom p zero zs

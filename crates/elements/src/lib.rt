@@ -1,0 +1,110 @@
+// Elements: their bytes, and the values that a precision takes (scope paper, "Cells and cubes"; "Refusal numbers", 7).
+ghost use mathlib.Core.Path.{_≡_};
+ghost use mathlib.Core.Bool.{false};
+ghost use Prim.Native.Nat.{_+_, _*_, _/_, _%_, _<_, _≤_};
+ghost use lib.IntN.{pos, _-ℤ_};
+ghost use lib.ListN.{length};
+ghost use Rattle.refusal.specs.Checks.{inOrder};
+ghost use Rattle.elements.specs.Bytes.{elementBytes, byteOf, signed};
+ghost use Rattle.elements.specs.Values.{valueChecks};
+ghost use Rattle.elements.specs.Scan.{allTaken};
+use refusal::Answer;
+use refusal::Refusal;
+
+// Bytes an element, by the precision code.
+pub fn element_bytes(precision: u32) -> u32
+    ensures { λ r. ⌜ r ≡ elementBytes precision ⌝ }
+{
+    if precision == 0 { 1 } else { 2 }
+}
+
+// A number whose two low bytes are the element's: 65536 more is not negative, and changes neither byte.
+fn bits(x: i16) -> u32
+    ensures { λ r. ⌜ (r % 256 ≡ byteOf x 0) × (r / 256 % 256 ≡ byteOf x 1) ⌝ }
+{
+    (x as i32 + 65536) as u32
+}
+
+// The low byte of an element.
+pub fn low_byte(x: i16) -> u8
+    ensures { λ r. ⌜ r ≡ byteOf x 0 ⌝ }
+{
+    (bits(x) % 256) as u8
+}
+
+// The high byte of an element.
+pub fn high_byte(x: i16) -> u8
+    ensures { λ r. ⌜ r ≡ byteOf x 1 ⌝ }
+{
+    (bits(x) / 256 % 256) as u8
+}
+
+// The difference of two numbers, where it fits 16 bits.
+fn less(n: u32, m: u32) -> i16
+    requires { ⌜ (n < m + 32768) × (m ≤ 32768) ⌝ }
+    ensures { λ r. ⌜ r ≡ pos n -ℤ pos m ⌝ }
+{
+    (n as i32 - m as i32) as i16
+}
+
+// The element of one byte: 128 more turns the byte over, so that 128 less is its number.
+pub fn from_byte(b: u8) -> i16
+    ensures { λ r. ⌜ r ≡ signed 1 b ⌝ }
+{
+    less((b as u32 + 128) % 256, 128)
+}
+
+// The element of two bytes, low byte first: likewise with 32768.
+pub fn from_bytes(low: u8, high: u8) -> i16
+    ensures { λ r. ⌜ r ≡ signed 2 (low + 256 * high) ⌝ }
+{
+    let word = low as u32 + 256 * (high as u32);
+    less((word + 32768) % 65536, 32768)
+}
+
+// Whether every element lies in -128..127, by one pass without an early exit.
+fn all_int8(elements: &[i16]) -> bool
+    ensures { λ r. ⌜ r ≡ allTaken 0 (now (elements .entry)) (length (now (elements .entry))) ⌝ }
+{
+    let mut all = true;
+    let mut i: usize = 0;
+    while i < elements.len() {
+        let x = elements[i];
+        all = all & (-128 <= x) & (x <= 127);
+        i += 1;
+    }
+    all
+}
+
+// The index of the first element outside -128..127, of which there is one.
+fn first_outside(elements: &[i16]) -> usize
+    requires { ⌜ allTaken 0 (now elements) (length (now elements)) ≡ false ⌝ }
+    ensures { λ r. ⌜ inOrder (valueChecks 0 (now (elements .entry))) ≡ Answer.Refused Refusal.Int8Range r ⌝ }
+{
+    let mut at: usize = 0;
+    while at < elements.len() {
+        let x = elements[at];
+        if x < -128 {
+            return at;
+        }
+        if 127 < x {
+            return at;
+        }
+        at += 1;
+    }
+    at
+}
+
+// Whether a precision takes every element; a refusal has the least index at fault.
+pub fn check_values(precision: u32, elements: &[i16]) -> Answer
+    ensures { λ r. ⌜ r ≡ inOrder (valueChecks precision (now (elements .entry))) ⌝ }
+{
+    if precision != 0 {
+        return Answer::Accepted;
+    }
+    if all_int8(elements) {
+        return Answer::Accepted;
+    }
+    let at = first_outside(elements);
+    Answer::Refused(Refusal::Int8Range, at)
+}

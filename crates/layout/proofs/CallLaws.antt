@@ -1,0 +1,141 @@
+-- The orders of checks: what an accepted call tells, and that a call on the whole cube is one on its whole box. Assumes nothing.
+--     Admitted, admitted     what an accepted box call tells
+--     admit-whole            the box check of the whole cube never refuses
+--     pack-admitted, pack-values     what an accepted packing tells
+--     admit-layout .. admit-taken    the checks of a box call, one after another
+--     box-counts             a box's counts are at most 8192
+use Prim.Native.Nat.{ℕ, _+_, _≤_, _<_}
+use native.Mathlib.Omega.{arith}
+use mathlib.Core.Path.{_≡_, refl, sym, ap, _∙_}
+use mathlib.Core.Bool.{Bool, true, false}
+use mathlib.Core.List.{List, [], _∷_, _++_}
+use lib.ListN.{length}
+use lib.Dec.{leb, eqb}
+use lib.IntN.{ℤ}
+use borrow.Author.Tests.{leb-true, eqb-true, le-leb, lt-leb, eq-eqb, ne-eqb}
+use Rattle.refusal.specs.declared.Answer.{Answer}
+use Rattle.refusal.specs.declared.Answer.the-variants.{Accepted, Refused}
+use Rattle.refusal.specs.declared.Refusal.{Refusal}
+use Rattle.refusal.specs.declared.Refusal.the-variants.{BufferLength, ElementCount, Bounds}
+use Rattle.refusal.specs.Checks.{require, inOrder}
+use Rattle.refusal.proofs.CheckLaws.{inOrder-nil, inOrder-held, inOrder-rest, inOrder-next, inOrder-stop, inOrder-front, inOrder-back, inOrder-passed, inOrder-refused}
+use Rattle.elements.specs.Values.{valueChecks}
+use Rattle.layout.specs.declared.CubeLayout.{CubeLayout}
+use Rattle.layout.specs.declared.ElementBox.{ElementBox}
+use Rattle.layout.specs.Geometry.{elementCount, cubeExtent}
+use Rattle.layout.specs.Boxes.{wholeBox, boxCount, boxInside}
+use Rattle.layout.specs.Rules.{layoutChecks, boxChecks, storageChecks, cubeChecks, admitChecks}
+use Rattle.layout.specs.Calls.{packAnswer}
+use Rattle.layout.proofs.Taken.{Taken, taken}
+use Rattle.layout.proofs.BoxLaws.{BoxTaken, box-taken, whole-inside, whole-count}
+
+-- an accepted call: the layout and the box are taken, the elements are as many as the box has, the buffer holds the extent
+pub record Admitted (q : CubeLayout) (box : ElementBox) (given len : ℕ) : Type 0 where
+  pub layout : Taken q
+  pub area : BoxTaken q box
+  pub count : given ≡ boxCount box
+  pub room : q .start + cubeExtent q ≤ len
+
+module _ (q : CubeLayout) (count given len : ℕ) where
+  storage-count : inOrder (storageChecks q count given len) ≡ Accepted → given ≡ count
+  unfolding storageChecks
+  storage-count e = eqb-true given count (inOrder-held 0 ElementCount (eqb given count) (require BufferLength (leb (q .start + cubeExtent q) len) ∷ []) e)
+
+  storage-room : inOrder (storageChecks q count given len) ≡ Accepted → q .start + cubeExtent q ≤ len
+  unfolding storageChecks
+  storage-room e =
+      let t = leb (q .start + cubeExtent q) len in
+      leb-true (q .start + cubeExtent q) len
+      (inOrder-held 0 BufferLength t [] (inOrder-rest 0 ElementCount (eqb given count) (require BufferLength t ∷ []) e))
+
+box-inside : (q : CubeLayout) (box : ElementBox) → inOrder (boxChecks q box) ≡ Accepted → boxInside q box ≡ true
+unfolding boxChecks
+box-inside q box e = inOrder-held 0 Bounds (boxInside q box) [] e
+
+pub admitted : (q : CubeLayout) (box : ElementBox) (given len : ℕ) → inOrder (admitChecks q box given len) ≡ Accepted → Admitted q box given len
+unfolding admitChecks
+admitted q box given len e =
+    let front = inOrder-front (layoutChecks q ++ boxChecks q box) (storageChecks q (boxCount box) given len) e in
+    let back = inOrder-back (layoutChecks q ++ boxChecks q box) (storageChecks q (boxCount box) given len) e in
+    record {
+      layout = taken q (inOrder-front (layoutChecks q) (boxChecks q box) front);
+      area = box-taken q box (box-inside q box (inOrder-back (layoutChecks q) (boxChecks q box) front));
+      count = storage-count q (boxCount box) given len back;
+      room = storage-room q (boxCount box) given len back;
+    }
+
+-- the box check of the whole cube holds once the layout is taken
+whole-front : (q : CubeLayout) (a : Answer) → inOrder (layoutChecks q) ≡ a → inOrder (layoutChecks q ++ boxChecks q (wholeBox q)) ≡ a
+unfolding boxChecks
+whole-front q Accepted e = inOrder-passed (layoutChecks q) (boxChecks q (wholeBox q)) e ∙ inOrder-next 0 Bounds [] (whole-inside q (taken q e)) ∙ inOrder-nil
+whole-front q (Refused r i) e = inOrder-refused (layoutChecks q) (boxChecks q (wholeBox q)) e
+
+-- two lists of checks with one answer, followed by the same checks
+same-front : (xs ys zs : List Answer) (a : Answer) → inOrder xs ≡ a → inOrder ys ≡ a → inOrder (xs ++ zs) ≡ inOrder (ys ++ zs)
+same-front xs ys zs Accepted p q = inOrder-passed xs zs p ∙ sym (inOrder-passed ys zs q)
+same-front xs ys zs (Refused r i) p q = inOrder-refused xs zs p ∙ sym (inOrder-refused ys zs q)
+
+pub admit-whole : (q : CubeLayout) (given len : ℕ) → inOrder (admitChecks q (wholeBox q) given len) ≡ inOrder (cubeChecks q given len)
+unfolding admitChecks cubeChecks
+admit-whole q given len =
+    same-front (layoutChecks q ++ boxChecks q (wholeBox q)) (layoutChecks q) (storageChecks q (boxCount (wholeBox q)) given len) (inOrder (layoutChecks q))
+    (whole-front q (inOrder (layoutChecks q)) refl)
+    refl
+    ∙ ap (λ (n : ℕ). inOrder (layoutChecks q ++ storageChecks q n given len)) (whole-count q)
+
+pub cube-admitted : (q : CubeLayout) (given len : ℕ) → inOrder (cubeChecks q given len) ≡ Accepted → Admitted q (wholeBox q) given len
+cube-admitted q given len e = admitted q (wholeBox q) given len (admit-whole q given len ∙ e)
+
+pub pack-admitted : (q : CubeLayout) (raw : List ℤ) (len : ℕ) → packAnswer q raw len ≡ Accepted → Admitted q (wholeBox q) (length raw) len
+unfolding packAnswer
+pack-admitted q raw len e = cube-admitted q (length raw) len (inOrder-front (cubeChecks q (length raw) len) (valueChecks (q .precision) raw) e)
+
+pub pack-values : (q : CubeLayout) (raw : List ℤ) (len : ℕ) → packAnswer q raw len ≡ Accepted → inOrder (valueChecks (q .precision) raw) ≡ Accepted
+unfolding packAnswer
+pack-values q raw len e = inOrder-back (cubeChecks q (length raw) len) (valueChecks (q .precision) raw) e
+
+-- ---- checks 1 to 4, 9, 6, 5 as the code goes through them
+module _ (q : CubeLayout) (box : ElementBox) (given len : ℕ) where
+  pub admit-layout : {r : Refusal} {i : ℕ} → inOrder (layoutChecks q) ≡ Refused r i → Refused r i ≡ inOrder (admitChecks q box given len)
+  unfolding admitChecks
+  admit-layout e = sym (inOrder-refused (layoutChecks q ++ boxChecks q box) (storageChecks q (boxCount box) given len) (inOrder-refused (layoutChecks q) (boxChecks q box) e))
+
+  module _ (ok : inOrder (layoutChecks q) ≡ Accepted) where
+    pub admit-bounds : boxInside q box ≡ false → Refused Bounds 0 ≡ inOrder (admitChecks q box given len)
+    unfolding admitChecks boxChecks
+    admit-bounds e =
+        sym (inOrder-refused (layoutChecks q ++ boxChecks q box) (storageChecks q (boxCount box) given len) (inOrder-passed (layoutChecks q) (boxChecks q box) ok ∙ inOrder-stop 0 Bounds [] e))
+
+    module _ (inside : boxInside q box ≡ true) where
+      to-storage : inOrder (admitChecks q box given len) ≡ inOrder (storageChecks q (boxCount box) given len)
+      unfolding admitChecks boxChecks
+      to-storage =
+          inOrder-passed (layoutChecks q ++ boxChecks q box) (storageChecks q (boxCount box) given len)
+          (inOrder-passed (layoutChecks q) (boxChecks q box) ok ∙ inOrder-next 0 Bounds [] inside ∙ inOrder-nil)
+
+      pub admit-count : (given ≡ boxCount box → ⊥) → Refused ElementCount 0 ≡ inOrder (admitChecks q box given len)
+      unfolding storageChecks
+      admit-count f = sym (to-storage ∙ inOrder-stop 0 ElementCount (require BufferLength (leb (q .start + cubeExtent q) len) ∷ []) (ne-eqb given (boxCount box) f))
+
+      module _ (count : given ≡ boxCount box) where
+        pub admit-room : len < q .start + cubeExtent q → Refused BufferLength 0 ≡ inOrder (admitChecks q box given len)
+        unfolding storageChecks
+        admit-room h =
+            sym
+            (to-storage
+            ∙ inOrder-next 0 ElementCount (require BufferLength (leb (q .start + cubeExtent q) len) ∷ []) (eq-eqb given (boxCount box) count)
+            ∙ inOrder-stop 0 BufferLength [] (lt-leb (q .start + cubeExtent q) len h))
+
+        pub admit-taken : q .start + cubeExtent q ≤ len → Accepted ≡ inOrder (admitChecks q box given len)
+        unfolding storageChecks
+        admit-taken h =
+            sym
+            (to-storage
+            ∙ inOrder-next 0 ElementCount (require BufferLength (leb (q .start + cubeExtent q) len) ∷ []) (eq-eqb given (boxCount box) count)
+            ∙ inOrder-next 0 BufferLength [] (le-leb (q .start + cubeExtent q) len h)
+            ∙ inOrder-nil)
+
+-- the counts of a box inside a taken cube
+pub box-counts : (q : CubeLayout) (box : ElementBox) → Taken q → BoxTaken q box → (box .channels ≤ 8192) × (box .rows ≤ 8192) × (box .columns ≤ 8192)
+box-counts q box ok t =
+    (omega (arith, t .channels .fit, ok .channels-le), omega (arith, t .rows .fit, ok .height-le), omega (arith, t .columns .fit, ok .width-le))

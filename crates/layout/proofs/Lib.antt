@@ -1,0 +1,23 @@
+-- Laws of the definitions of specs/, for the crates above.
+--     Taken           what an accepted layout tells
+--     RuleLaws        checks 1 to 4 as the code goes through them
+--     Atoms           a byte's atom by division, and the paper's formula
+--     Views           a byte's owner by cases, each with the paper's formula
+--     BoxLaws         boxes, and the raw order over a box
+--     ContentLaws     each byte after packing and after writing a box
+--     Extents         places inside the extent, aligned, within 64 bits
+--     CallLaws        the orders of checks: a call on the whole cube, and what an accepted call tells
+--     Formulas        the paper's formula and its converse; packing by it
+--     RoundTrip       what is packed is read back
+--     Places          the statements about places, padding and the round trip
+pub mod Taken
+pub mod RuleLaws
+pub mod Atoms
+pub mod Views
+pub mod BoxLaws
+pub mod ContentLaws
+pub mod Extents
+pub mod CallLaws
+pub mod Formulas
+pub mod RoundTrip
+pub mod Places

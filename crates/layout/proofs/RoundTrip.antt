@@ -1,0 +1,49 @@
+-- What is packed is read back: each element is made of the bytes that packing left at its position. Assumes nothing.
+--     read-back     unpacking what was packed
+use Prim.Native.Nat.{ℕ, _<_}
+use mathlib.Core.Path.{_≡_, refl, sym, ap, _∙_, subst}
+use mathlib.Core.List.{List}
+use lib.ListN.{length, getD}
+use lib.Seq.{ext-getD}
+use lib.IntN.{ℤ, pos}
+use lib.Signed.{mag}
+use Rattle.refusal.specs.declared.Answer.the-variants.{Accepted}
+use Rattle.elements.proofs.ByteLaws.{elementAt-byteOf}
+use Rattle.elements.proofs.TabulateLaws.{length-tabulate, getD-tabulate}
+use Rattle.elements.proofs.ValueLaws.{valueTaken-fits, valueChecks-taken}
+use Rattle.layout.specs.declared.CubeLayout.{CubeLayout}
+use Rattle.layout.specs.Geometry.{sizeOf, rawIndex, elementPosition}
+use Rattle.layout.specs.Boxes.{wholeBox, boxCount, channelAt, rowAt, columnAt}
+use Rattle.layout.specs.Contents.{packed, storedElement, boxElements, unpacked}
+use Rattle.layout.specs.Calls.{packAnswer}
+use Rattle.layout.proofs.BoxLaws.{InCube, in-cube, at-in, boxIndex-at, whole-index, whole-taken}
+use Rattle.layout.proofs.Formulas.{packing-writes}
+use Rattle.layout.proofs.CallLaws.{Admitted, pack-admitted, pack-values}
+
+module _ (q : CubeLayout) (raw : List ℤ) (before : List ℕ) (sixteen : (i : ℕ) → mag (getD raw i (pos 0)) < 32768) (accepted : packAnswer q raw (length before) ≡ Accepted) where
+  adm : Admitted q (wholeBox q) (length raw) (length before)
+  adm = pack-admitted q raw (length before) accepted
+
+  stored-back : (c h w : ℕ) → InCube q c h w → rawIndex q c h w < length raw → storedElement q (packed q raw before) c h w ≡ getD raw (rawIndex q c h w) (pos 0)
+  unfolding storedElement
+  stored-back c h w i hi =
+      elementAt-byteOf (sizeOf q) (getD raw (rawIndex q c h w) (pos 0)) (packed q raw before) (elementPosition q c h w)
+      (valueTaken-fits (q .precision) (getD raw (rawIndex q c h w) (pos 0)) (valueChecks-taken (q .precision) raw (pack-values q raw (length before) accepted) (rawIndex q c h w) hi) (sixteen (rawIndex q c h w)))
+      (λ b hb. packing-writes q (adm .layout) raw before (adm .room) c h w b i hb)
+
+  pub read-back : unpacked q (packed q raw before) ≡ raw
+  unfolding unpacked boxElements
+  read-back =
+      let b = wholeBox q in
+      let f : ℕ → ℤ = λ (i : ℕ). storedElement q (packed q raw before) (channelAt b i) (rowAt b i) (columnAt b i) in
+      let long : length (unpacked q (packed q raw before)) ≡ boxCount b = length-tabulate f (boxCount b) in
+      ext-getD (pos 0) (unpacked q (packed q raw before)) raw (long ∙ sym (adm .count))
+      (λ i h.
+      let hi : i < boxCount b = subst (λ (n : ℕ). i < n) long h in
+      let t = whole-taken q (adm .layout) in
+      let in-box = at-in b i hi (t .rows .some) (t .columns .some) in
+      let cube = in-cube q b (channelAt b i) (rowAt b i) (columnAt b i) t in-box in
+      let index : rawIndex q (channelAt b i) (rowAt b i) (columnAt b i) ≡ i = sym (whole-index q (channelAt b i) (rowAt b i) (columnAt b i)) ∙ boxIndex-at b i hi (t .rows .some) (t .columns .some) in
+      getD-tabulate f (boxCount b) i (pos 0) hi
+      ∙ stored-back (channelAt b i) (rowAt b i) (columnAt b i) cube (subst (λ (n : ℕ). n < length raw) (sym index) (subst (λ (n : ℕ). i < n) (sym (adm .count)) hi))
+      ∙ ap (λ (n : ℕ). getD raw n (pos 0)) index)

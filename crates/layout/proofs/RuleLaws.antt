@@ -1,0 +1,147 @@
+-- The rules and the orders of checks as the code goes through them, one test after another. Assumes nothing.
+--     size-small, size-large                 one size
+--     sizes-width, sizes-height, sizes-channels     the three sizes
+--     strides-line .. strides-last           the strides
+--     check-sizes .. check-taken             checks 1 to 4
+--     span-none .. box-columns               boxes
+--     Sizes, sizes                           what accepted sizes tell
+use Prim.Native.Nat.{ℕ, _+_, _-_, _*_, _%_, _^_, _≤_, _<_}
+use native.Mathlib.Nat.{mul-le-mul}
+use native.Mathlib.Omega.{arith}
+use mathlib.Core.Path.{_≡_, refl, sym, ap, _∙_}
+use mathlib.Core.Bool.{Bool, true, false, _&&_}
+use mathlib.Core.List.{List, [], _∷_}
+use lib.Dec.{leb, ltb, eqb}
+use borrow.Author.Tests.{lt-ltb, le-ltb, le-leb, lt-leb, eq-eqb, ne-eqb, leb-true}
+use Rattle.refusal.specs.declared.Answer.{Answer}
+use Rattle.refusal.specs.declared.Answer.the-variants.{Accepted, Refused}
+use Rattle.refusal.specs.declared.Refusal.the-variants.{Size, Precision, CubeStrides, CubeStart}
+use Rattle.refusal.specs.Checks.{inOrder, require}
+use Rattle.refusal.proofs.CheckLaws.{inOrder-nil, inOrder-next, inOrder-stop}
+use Rattle.layout.specs.declared.CubeLayout.{CubeLayout}
+use Rattle.layout.specs.declared.ElementBox.{ElementBox}
+use Rattle.layout.specs.Boxes.{spanInside, boxInside}
+use Rattle.layout.specs.Rules.{sizeTaken, sizesTaken, wholeAtoms, stridesTaken, layoutChecks}
+use Rattle.layout.proofs.Taken.{and-left, and-right}
+
+pub size-small : (n : ℕ) → n < 1 → false ≡ sizeTaken n
+unfolding sizeTaken
+size-small n h = rw (lt-leb 1 n h)
+
+pub size-large : (n : ℕ) → 1 ≤ n → leb n 8192 ≡ sizeTaken n
+unfolding sizeTaken
+size-large n h = rw (le-leb 1 n h)
+
+module _ (w h line surface : ℕ) where
+  pub strides-line : (line % 32 ≡ 0 → ⊥) → false ≡ stridesTaken w h line surface
+  unfolding stridesTaken wholeAtoms
+  strides-line f = rw (ne-eqb (line % 32) 0 f)
+
+  module _ (lines : line % 32 ≡ 0) where
+    pub strides-surface : (surface % 32 ≡ 0 → ⊥) → false ≡ stridesTaken w h line surface
+    unfolding stridesTaken wholeAtoms
+    strides-surface f = rw (eq-eqb (line % 32) 0 lines, ne-eqb (surface % 32) 0 f)
+
+    module _ (surfaces : surface % 32 ≡ 0) where
+      pub strides-short : line < 32 * w → false ≡ stridesTaken w h line surface
+      unfolding stridesTaken wholeAtoms
+      strides-short i = rw (eq-eqb (line % 32) 0 lines, eq-eqb (surface % 32) 0 surfaces, lt-leb (32 * w) line i)
+
+      pub strides-last : 32 * w ≤ line → leb ((h - 1) * line + 32 * w) surface ≡ stridesTaken w h line surface
+      unfolding stridesTaken wholeAtoms
+      strides-last i = rw (eq-eqb (line % 32) 0 lines, eq-eqb (surface % 32) 0 surfaces, le-leb (32 * w) line i)
+
+-- the lines of a surface, within 64 bits
+pub lines-fit : (w h line : ℕ) → w ≤ 8192 → h ≤ 8192 → line < 2 ^ 32 → (h - 1) * line + 32 * w < 2 ^ 46
+lines-fit w h line hw hh hl = omega (arith, mul-le-mul {n₁ = h - 1} {m₁ = line} {n₂ = 8192} {m₂ = 2 ^ 32} (omega arith) (omega arith))
+
+module _ (q : CubeLayout) where
+  pub sizes-width : sizeTaken (q .width) ≡ false → false ≡ sizesTaken q
+  unfolding sizesTaken
+  sizes-width e = rw e
+
+  pub sizes-height : sizeTaken (q .width) ≡ true → sizeTaken (q .height) ≡ false → false ≡ sizesTaken q
+  unfolding sizesTaken
+  sizes-height w e = rw (w, e)
+
+  pub sizes-channels : sizeTaken (q .width) ≡ true → sizeTaken (q .height) ≡ true → sizeTaken (q .channels) ≡ sizesTaken q
+  unfolding sizesTaken
+  sizes-channels w h = rw (w, h)
+
+  -- what accepted sizes tell
+  pub record Sizes : Type 0 where
+    pub width-le : q .width ≤ 8192
+    pub height-pos : 0 < q .height
+    pub height-le : q .height ≤ 8192
+
+  pub sizes : sizesTaken q ≡ true → Sizes
+  unfolding sizesTaken sizeTaken
+  sizes e =
+      let w = sizeTaken (q .width) in
+      let h = sizeTaken (q .height) in
+      let c = sizeTaken (q .channels) in
+      let wh = and-left (w && h) c e in
+      record {
+        width-le = leb-true (q .width) 8192 (and-right (leb 1 (q .width)) (leb (q .width) 8192) (and-left w h wh));
+        height-pos = leb-true 1 (q .height) (and-left (leb 1 (q .height)) (leb (q .height) 8192) (and-right w h wh));
+        height-le = leb-true (q .height) 8192 (and-right (leb 1 (q .height)) (leb (q .height) 8192) (and-right w h wh));
+      }
+
+  r4 : List Answer
+  r4 = require CubeStart (wholeAtoms (q .start)) ∷ []
+
+  r3 : List Answer
+  r3 = require CubeStrides (stridesTaken (q .width) (q .height) (q .line) (q .surface)) ∷ require CubeStart (wholeAtoms (q .start)) ∷ []
+
+  r2 : List Answer
+  r2 = require Precision (ltb (q .precision) 3) ∷ require CubeStrides (stridesTaken (q .width) (q .height) (q .line) (q .surface)) ∷ require CubeStart (wholeAtoms (q .start)) ∷ []
+
+  pub check-sizes : sizesTaken q ≡ false → Refused Size 0 ≡ inOrder (layoutChecks q)
+  unfolding layoutChecks r2
+  check-sizes e = sym (inOrder-stop 0 Size r2 e)
+
+  module _ (sz : sizesTaken q ≡ true) where
+    pub check-precision : 3 ≤ q .precision → Refused Precision 0 ≡ inOrder (layoutChecks q)
+    unfolding layoutChecks r2 r3
+    check-precision h = sym (inOrder-next 0 Size r2 sz ∙ inOrder-stop 0 Precision r3 (le-ltb (q .precision) 3 h))
+
+    module _ (pr : q .precision < 3) where
+      pub check-strides : stridesTaken (q .width) (q .height) (q .line) (q .surface) ≡ false → Refused CubeStrides 0 ≡ inOrder (layoutChecks q)
+      unfolding layoutChecks r2 r3 r4
+      check-strides e = sym (inOrder-next 0 Size r2 sz ∙ inOrder-next 0 Precision r3 (lt-ltb (q .precision) 3 pr) ∙ inOrder-stop 0 CubeStrides r4 e)
+
+      module _ (st : stridesTaken (q .width) (q .height) (q .line) (q .surface) ≡ true) where
+        to-start : inOrder (layoutChecks q) ≡ inOrder r4
+        unfolding layoutChecks r2 r3 r4
+        to-start = inOrder-next 0 Size r2 sz ∙ inOrder-next 0 Precision r3 (lt-ltb (q .precision) 3 pr) ∙ inOrder-next 0 CubeStrides r4 st
+
+        pub check-start : (q .start % 32 ≡ 0 → ⊥) → Refused CubeStart 0 ≡ inOrder (layoutChecks q)
+        unfolding r4 wholeAtoms
+        check-start f = sym (to-start ∙ inOrder-stop 0 CubeStart [] (ne-eqb (q .start % 32) 0 f))
+
+        pub check-taken : q .start % 32 ≡ 0 → Accepted ≡ inOrder (layoutChecks q)
+        unfolding r4 wholeAtoms
+        check-taken e = sym (to-start ∙ inOrder-next 0 CubeStart [] (eq-eqb (q .start % 32) 0 e) ∙ inOrder-nil)
+
+-- ---- boxes
+pub span-none : (first count size : ℕ) → count < 1 → false ≡ spanInside first count size
+unfolding spanInside
+span-none first count size h = rw (lt-leb 1 count h)
+
+pub span-some : (first count size : ℕ) → 1 ≤ count → leb (first + count) size ≡ spanInside first count size
+unfolding spanInside
+span-some first count size h = rw (le-leb 1 count h)
+
+module _ (q : CubeLayout) (b : ElementBox) where
+  pub box-channels : spanInside (b .channel) (b .channels) (q .channels) ≡ false → false ≡ boxInside q b
+  unfolding boxInside
+  box-channels e = rw e
+
+  pub box-rows : spanInside (b .channel) (b .channels) (q .channels) ≡ true → spanInside (b .row) (b .rows) (q .height) ≡ false → false ≡ boxInside q b
+  unfolding boxInside
+  box-rows c e = rw (c, e)
+
+  pub box-columns : spanInside (b .channel) (b .channels) (q .channels) ≡ true → spanInside (b .row) (b .rows) (q .height) ≡ true
+      → spanInside (b .column) (b .columns) (q .width) ≡ boxInside q b
+  unfolding boxInside
+  box-columns c r = rw (c, r)

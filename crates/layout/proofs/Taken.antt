@@ -1,0 +1,110 @@
+-- What an accepted layout tells: the facts behind checks 1 to 4. By taking the checks' tests apart. Assumes nothing.
+--     and-left, and-right, and-both     both halves of a test that holds
+--     Taken, taken                      the facts of an accepted layout
+use Prim.Native.Nat.{ℕ, _+_, _-_, _*_, _%_, _≤_, _<_}
+use mathlib.Core.Path.{_≡_, refl, sym, ap, _∙_}
+use mathlib.Core.Bool.{Bool, true, false, _&&_}
+use mathlib.Core.List.{List, [], _∷_}
+use lib.Dec.{leb, ltb, eqb}
+use borrow.Author.Tests.{ltb-true, leb-true, eqb-true}
+use Rattle.refusal.specs.declared.Answer.{Answer}
+use Rattle.refusal.specs.declared.Answer.the-variants.{Accepted}
+use Rattle.refusal.specs.declared.Refusal.the-variants.{Size, Precision, CubeStrides, CubeStart}
+use Rattle.refusal.specs.Checks.{inOrder, require}
+use Rattle.refusal.proofs.CheckLaws.{inOrder-held, inOrder-rest}
+use Rattle.layout.specs.declared.CubeLayout.{CubeLayout}
+use Rattle.layout.specs.Rules.{sizeTaken, sizesTaken, wholeAtoms, stridesTaken, layoutChecks}
+
+pub and-left : (a b : Bool) → (a && b) ≡ true → a ≡ true
+and-left true b e = refl
+and-left false b e = e
+
+pub and-right : (a b : Bool) → (a && b) ≡ true → b ≡ true
+and-right true b e = e
+and-right false b e = cc
+
+pub and-both : {a b : Bool} → a ≡ true → b ≡ true → (a && b) ≡ true
+and-both p q = rw (p, q)
+
+pub record Taken (q : CubeLayout) : Type 0 where
+  pub width-pos : 0 < q .width
+  pub width-le : q .width ≤ 8192
+  pub height-pos : 0 < q .height
+  pub height-le : q .height ≤ 8192
+  pub channels-pos : 0 < q .channels
+  pub channels-le : q .channels ≤ 8192
+  pub precision-lt : q .precision < 3
+  pub line-atoms : q .line % 32 ≡ 0
+  pub surface-atoms : q .surface % 32 ≡ 0
+  pub line-ge : 32 * q .width ≤ q .line
+  pub surface-ge : (q .height - 1) * q .line + 32 * q .width ≤ q .surface
+  pub start-atoms : q .start % 32 ≡ 0
+
+size-pos : (n : ℕ) → sizeTaken n ≡ true → 0 < n
+unfolding sizeTaken
+size-pos n e = leb-true 1 n (and-left (leb 1 n) (leb n 8192) e)
+
+size-le : (n : ℕ) → sizeTaken n ≡ true → n ≤ 8192
+unfolding sizeTaken
+size-le n e = leb-true n 8192 (and-right (leb 1 n) (leb n 8192) e)
+
+atoms : (n : ℕ) → wholeAtoms n ≡ true → n % 32 ≡ 0
+unfolding wholeAtoms
+atoms n e = eqb-true (n % 32) 0 e
+
+-- the four tests of an accepted layout
+record Tests (q : CubeLayout) : Type 0 where
+  sizes : sizesTaken q ≡ true
+  precision : ltb (q .precision) 3 ≡ true
+  strides : stridesTaken (q .width) (q .height) (q .line) (q .surface) ≡ true
+  start : wholeAtoms (q .start) ≡ true
+
+tests : (q : CubeLayout) → inOrder (layoutChecks q) ≡ Accepted → Tests q
+unfolding layoutChecks
+tests q e =
+    let sz : Bool = sizesTaken q in
+    let pr : Bool = ltb (q .precision) 3 in
+    let st : Bool = stridesTaken (q .width) (q .height) (q .line) (q .surface) in
+    let sa : Bool = wholeAtoms (q .start) in
+    let r4 : List Answer = [] in
+    let r3 : List Answer = require CubeStart sa ∷ r4 in
+    let r2 : List Answer = require CubeStrides st ∷ r3 in
+    let r1 : List Answer = require Precision pr ∷ r2 in
+    let e1 = inOrder-rest 0 Size sz r1 e in
+    let e2 = inOrder-rest 0 Precision pr r2 e1 in
+    let e3 = inOrder-rest 0 CubeStrides st r3 e2 in
+    record {
+      sizes = inOrder-held 0 Size sz r1 e;
+      precision = inOrder-held 0 Precision pr r2 e1;
+      strides = inOrder-held 0 CubeStrides st r3 e2;
+      start = inOrder-held 0 CubeStart sa r4 e3;
+    }
+
+pub taken : (q : CubeLayout) → inOrder (layoutChecks q) ≡ Accepted → Taken q
+unfolding stridesTaken sizesTaken
+taken q e =
+    let t = tests q e in
+    let wh = and-left (sizeTaken (q .width) && sizeTaken (q .height)) (sizeTaken (q .channels)) (t .sizes) in
+    let w = and-left (sizeTaken (q .width)) (sizeTaken (q .height)) wh in
+    let h = and-right (sizeTaken (q .width)) (sizeTaken (q .height)) wh in
+    let c = and-right (sizeTaken (q .width) && sizeTaken (q .height)) (sizeTaken (q .channels)) (t .sizes) in
+    let la = wholeAtoms (q .line) in
+    let sa = wholeAtoms (q .surface) in
+    let lg = leb (32 * q .width) (q .line) in
+    let sg = leb ((q .height - 1) * q .line + 32 * q .width) (q .surface) in
+    let s1 = and-left (la && sa && lg) sg (t .strides) in
+    let s2 = and-left (la && sa) lg s1 in
+    record {
+      width-pos = size-pos (q .width) w;
+      width-le = size-le (q .width) w;
+      height-pos = size-pos (q .height) h;
+      height-le = size-le (q .height) h;
+      channels-pos = size-pos (q .channels) c;
+      channels-le = size-le (q .channels) c;
+      precision-lt = ltb-true (q .precision) 3 (t .precision);
+      line-atoms = atoms (q .line) (and-left la sa s2);
+      surface-atoms = atoms (q .surface) (and-right la sa s2);
+      line-ge = leb-true (32 * q .width) (q .line) (and-right (la && sa) lg s1);
+      surface-ge = leb-true ((q .height - 1) * q .line + 32 * q .width) (q .surface) (and-right (la && sa && lg) sg (t .strides));
+      start-atoms = atoms (q .start) (t .start);
+    }

@@ -1,0 +1,6 @@
+pub mod Geometry
+pub mod Boxes
+pub mod Rules
+pub mod Owners
+pub mod Contents
+pub mod Calls

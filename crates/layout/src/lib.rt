@@ -1,0 +1,85 @@
+// Feature cubes: their layout in memory, and the checks that a call makes (scope paper, "Cells and cubes").
+mod measure;
+mod rules;
+
+ghost use mathlib.Core.Path.{_≡_};
+ghost use mathlib.Core.List.{_++_};
+ghost use Prim.Native.Nat.{_+_, _*_, _^_, _≤_, _<_};
+ghost use Rattle.refusal.specs.declared.Answer.the-variants.{Accepted};
+ghost use Rattle.refusal.specs.Checks.{inOrder};
+ghost use Rattle.layout.specs.Geometry.{cubeExtent, elementPosition};
+ghost use Rattle.layout.specs.Rules.{layoutChecks, admitChecks};
+ghost use Rattle.layout.specs.Calls.{extentQuantity, positionQuantity};
+use refusal::Answer;
+use refusal::Quantity;
+use refusal::Refusal;
+
+// Sizes, precision code, strides and start of a packed cube (the scope paper's "frame").
+pub struct CubeLayout {
+    pub width: u32,
+    pub height: u32,
+    pub channels: u32,
+    pub precision: u32,
+    pub line: u32,
+    pub surface: u32,
+    pub start: u32,
+}
+
+// The first channel, row and column of a box of elements, and how many of each.
+pub struct ElementBox {
+    pub channel: u32,
+    pub row: u32,
+    pub column: u32,
+    pub channels: u32,
+    pub rows: u32,
+    pub columns: u32,
+}
+
+// Checks 1 to 4.
+pub fn check(layout: CubeLayout) -> Answer
+    ensures { λ r. ⌜ r ≡ inOrder (layoutChecks layout) ⌝ }
+{
+    if !rules::sizes_taken(layout) {
+        return Answer::Refused(Refusal::Size, 0);
+    }
+    if 3 <= layout.precision {
+        return Answer::Refused(Refusal::Precision, 0);
+    }
+    if !rules::strides_taken(layout.width, layout.height, layout.line, layout.surface) {
+        return Answer::Refused(Refusal::CubeStrides, 0);
+    }
+    if layout.start % 32 != 0 {
+        return Answer::Refused(Refusal::CubeStart, 0);
+    }
+    Answer::Accepted
+}
+
+// Bytes from the start to the end of the last atom.
+pub fn extent(layout: CubeLayout) -> Quantity
+    ensures { λ r. ⌜ r ≡ extentQuantity layout ⌝ }
+{
+    match check(layout) {
+        Answer::Refused(refusal, at) => Quantity::Denied(refusal, at),
+        Answer::Accepted => Quantity::Is(measure::extent_bytes(layout)),
+    }
+}
+
+// Checks 1 to 4, 9, 6, 5 of a call that lends `given` elements for a box and a buffer of `len` bytes.
+pub fn admit(layout: CubeLayout, area: ElementBox, given: usize, len: usize) -> Answer
+    ensures { λ r. ⌜ r ≡ inOrder (admitChecks layout area given len) ⌝ }
+{
+    let a = check(layout);
+    let Answer::Accepted = a else {
+        return a;
+    };
+    if !rules::box_inside(layout, area) {
+        return Answer::Refused(Refusal::Bounds, 0);
+    }
+    if given as u64 != measure::box_count(area) {
+        return Answer::Refused(Refusal::ElementCount, 0);
+    }
+    if (len as u64) < measure::end(layout) {
+        return Answer::Refused(Refusal::BufferLength, 0);
+    }
+    Answer::Accepted
+}

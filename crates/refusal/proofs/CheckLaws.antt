@@ -1,0 +1,90 @@
+-- Laws of checks made in order. By induction on the list of checks. Assumes nothing.
+--     requireAt-true, requireAt-false     what one check answers
+--     inOrder-next, inOrder-stop          the first check of a list held, or failed
+--     inOrder-passed, inOrder-refused     the first part of a list passed, or was refused
+--     inOrder-held, inOrder-rest          an accepted list: its first check held, and the rest is accepted
+--     leaves-done, leaves-before          what a call leaves, by its answer
+--     quantity-is, quantity-denied        the number that a call gives, by its answer
+use Prim.Native.Nat.{ℕ}
+use mathlib.Core.Path.{_≡_, refl, sym, ap, _∙_}
+use mathlib.Core.Bool.{Bool, true, false}
+use mathlib.Core.List.{List, [], _∷_, _++_}
+use Rattle.refusal.specs.declared.Refusal.{Refusal}
+use Rattle.refusal.specs.declared.Answer.{Answer}
+use Rattle.refusal.specs.declared.Answer.the-variants.{Accepted, Refused}
+use Rattle.refusal.specs.declared.Quantity.{Quantity}
+use Rattle.refusal.specs.declared.Quantity.the-variants.{Is, Denied}
+use Rattle.refusal.specs.Checks.{requireAt, inOrder, leaves, quantity}
+
+pub requireAt-true : (i : ℕ) (r : Refusal) {b : Bool} → b ≡ true → requireAt i r b ≡ Accepted
+unfolding requireAt
+requireAt-true i r e = rw e
+
+pub requireAt-false : (i : ℕ) (r : Refusal) {b : Bool} → b ≡ false → requireAt i r b ≡ Refused r i
+unfolding requireAt
+requireAt-false i r e = rw e
+
+pub inOrder-nil : inOrder [] ≡ Accepted
+unfolding inOrder
+inOrder-nil = refl
+
+pub inOrder-accepted : {a : Answer} (rest : List Answer) → a ≡ Accepted → inOrder (a ∷ rest) ≡ inOrder rest
+unfolding inOrder
+inOrder-accepted rest e = rw e
+
+pub inOrder-first : {a : Answer} {r : Refusal} {i : ℕ} (rest : List Answer) → a ≡ Refused r i → inOrder (a ∷ rest) ≡ Refused r i
+unfolding inOrder
+inOrder-first rest e = rw e
+
+pub inOrder-next : (i : ℕ) (r : Refusal) {b : Bool} (rest : List Answer) → b ≡ true → inOrder (requireAt i r b ∷ rest) ≡ inOrder rest
+inOrder-next i r rest e = inOrder-accepted rest (requireAt-true i r e)
+
+pub inOrder-stop : (i : ℕ) (r : Refusal) {b : Bool} (rest : List Answer) → b ≡ false → inOrder (requireAt i r b ∷ rest) ≡ Refused r i
+inOrder-stop i r rest e = inOrder-first rest (requireAt-false i r e)
+
+pub inOrder-passed : (xs ys : List Answer) → inOrder xs ≡ Accepted → inOrder (xs ++ ys) ≡ inOrder ys
+unfolding inOrder
+inOrder-passed [] ys e = refl
+inOrder-passed (Accepted ∷ xs) ys e = inOrder-passed xs ys e
+inOrder-passed (Refused r i ∷ xs) ys e = let z : _≡_ {A = Answer} (inOrder ys) (Refused r i) = cc in sym z
+
+pub inOrder-refused : (xs ys : List Answer) {r : Refusal} {i : ℕ} → inOrder xs ≡ Refused r i → inOrder (xs ++ ys) ≡ Refused r i
+unfolding inOrder
+inOrder-refused [] ys {r} {i} e = cc
+inOrder-refused (Accepted ∷ xs) ys e = inOrder-refused xs ys e
+inOrder-refused (Refused r′ i′ ∷ xs) ys e = e
+
+pub inOrder-held : (i : ℕ) (r : Refusal) (b : Bool) (rest : List Answer) → inOrder (requireAt i r b ∷ rest) ≡ Accepted → b ≡ true
+unfolding inOrder requireAt
+inOrder-held i r true rest e = refl
+inOrder-held i r false rest e = cc
+
+pub inOrder-rest : (i : ℕ) (r : Refusal) (b : Bool) (rest : List Answer) → inOrder (requireAt i r b ∷ rest) ≡ Accepted → inOrder rest ≡ Accepted
+unfolding inOrder requireAt
+inOrder-rest i r true rest e = e
+inOrder-rest i r false rest e = cc
+
+pub inOrder-front : (xs ys : List Answer) → inOrder (xs ++ ys) ≡ Accepted → inOrder xs ≡ Accepted
+unfolding inOrder
+inOrder-front [] ys e = refl
+inOrder-front (Accepted ∷ xs) ys e = inOrder-front xs ys e
+inOrder-front (Refused r i ∷ xs) ys e = e
+
+pub inOrder-back : (xs ys : List Answer) → inOrder (xs ++ ys) ≡ Accepted → inOrder ys ≡ Accepted
+inOrder-back xs ys e = sym (inOrder-passed xs ys (inOrder-front xs ys e)) ∙ e
+
+pub leaves-done : {A : Type 0} {a : Answer} (done before : A) → a ≡ Accepted → leaves a done before ≡ done
+unfolding leaves
+leaves-done done before e = rw e
+
+pub leaves-before : {A : Type 0} {a : Answer} {r : Refusal} {i : ℕ} (done before : A) → a ≡ Refused r i → leaves a done before ≡ before
+unfolding leaves
+leaves-before done before e = rw e
+
+pub quantity-is : {a : Answer} (n : ℕ) → a ≡ Accepted → quantity a n ≡ Is n
+unfolding quantity
+quantity-is n e = rw e
+
+pub quantity-denied : {a : Answer} {r : Refusal} {i : ℕ} (n : ℕ) → a ≡ Refused r i → quantity a n ≡ Denied r i
+unfolding quantity
+quantity-denied n e = rw e

@@ -1,0 +1,3 @@
+-- Laws of the definitions of specs/, for the crates above.
+--     CheckLaws   a list of checks: passed, refused, one check more; what a call leaves
+pub mod CheckLaws

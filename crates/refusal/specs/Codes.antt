@@ -1,0 +1,67 @@
+-- The number of each refusal (scope paper, "Refusal numbers"). Assumes nothing.
+use Prim.Native.Nat.{ℕ}
+use Rattle.refusal.specs.declared.Refusal.{Refusal}
+use Rattle.refusal.specs.declared.Refusal.the-variants.{Size, Precision, CubeStrides, CubeStart, BufferLength, ElementCount, Int8Range, Slot, Bounds, Overlap, TableLength, XSelect, XEnd, YSelect, YEnd, Shift, Counters, OutputLength, PixelFormat, PixelKind, XOffset, PixelStrides, PixelOutside, ScriptLine}
+use Rattle.refusal.specs.declared.Answer.{Answer}
+use Rattle.refusal.specs.declared.Answer.the-variants.{Accepted, Refused}
+
+-- the paper's number
+abbrev pub codeOf : Refusal → ℕ
+-- a size out of its range
+codeOf Size = 1
+-- precision code unknown, or 2 in a conversion
+codeOf Precision = 2
+-- cube strides
+codeOf CubeStrides = 3
+-- cube start
+codeOf CubeStart = 4
+-- packed buffer too short
+codeOf BufferLength = 5
+-- cell count not exact
+codeOf ElementCount = 6
+-- int8 cell outside −128..127
+codeOf Int8Range = 7
+-- slot above 15; not placed; already placed when placing
+codeOf Slot = 8
+-- box empty or outside stall or frame
+codeOf Bounds = 9
+-- overlap
+codeOf Overlap = 10
+-- X or Y table length
+codeOf TableLength = 11
+-- X select or offset
+codeOf XSelect = 12
+-- X end
+codeOf XEnd = 13
+-- Y select, or ready-made s
+codeOf YSelect = 14
+-- Y end
+codeOf YEnd = 15
+-- a shift out of range
+codeOf Shift = 16
+-- five counters plus new samples above 4294967295
+codeOf Counters = 17
+-- output length differs from samples
+codeOf OutputLength = 18
+-- format code
+codeOf PixelFormat = 19
+-- channels or precision not the table's
+codeOf PixelKind = 20
+-- X offset
+codeOf XOffset = 21
+-- pixel start or line
+codeOf PixelStrides = 22
+-- pixel outside the image
+codeOf PixelOutside = 23
+-- sheet line unreadable
+codeOf ScriptLine = 24
+
+-- 0 where the call was accepted, else the refusal's number
+abbrev pub answerCode : Answer → ℕ
+answerCode Accepted = 0
+answerCode (Refused r at) = codeOf r
+
+-- the index at fault, 0 where the call was accepted (the paper's "place")
+abbrev pub answerPlace : Answer → ℕ
+answerPlace Accepted = 0
+answerPlace (Refused r at) = at
