@@ -49,7 +49,7 @@ fn print_quantity(q: Quantity) {
 fn run_quantity(case: &[u8]) {
     let layout = layout_of(case);
     if field(case, 0) == 4 {
-        print_quantity(layout::position(layout, field(case, 8), field(case, 9), field(case, 10)));
+        print_quantity(cube::position(layout, field(case, 8), field(case, 9), field(case, 10)));
     } else {
         print_quantity(layout::extent(layout));
     }
@@ -61,9 +61,9 @@ fn call(case: &[u8], elements: &mut [i16], buffer: &mut [u8]) -> Answer {
     let area = box_of(case);
     match field(case, 0) {
         0 => cube::pack(layout, elements, buffer),
-        1 => cube_read::unpack(layout, buffer, elements),
+        1 => cube::unpack(layout, buffer, elements),
         2 => cube::write_box(layout, area, elements, buffer),
-        _ => cube_read::read_box(layout, area, buffer, elements),
+        _ => cube::read_box(layout, area, buffer, elements),
     }
 }
 

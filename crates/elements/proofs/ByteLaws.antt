@@ -1,5 +1,6 @@
 -- Laws of an element's bytes (specs/Bytes.antt). By the laws of the unsigned number that bytes are, and cases on the sign. Assumes nothing.
 --     elementBytes-cases, elementBytes-pos, elementBytes-le     one byte or two
+--     elementBytes-int8, elementBytes-other                     which, by the precision
 --     byteOf-lt                                                 a byte is below 256
 --     signed-low, signed-high                                   the number of a word in the lower half of the range, in the upper
 --     elementAt-ext                                             equal bytes are equal elements
@@ -91,3 +92,12 @@ pub elementAt-fits : (e : ℕ) (l : List ℕ) (at : ℕ)
 elementAt-fits e l at c h =
     lt-of-lt-of-le (elementAt-within e l at (⊎-elim (λ k. omega arith) (λ k. omega arith) c) h)
     (⊎-elim (λ k. rw k (omega arith)) (λ k. rw k (omega arith)) c)
+
+pub elementBytes-int8 : (p : ℕ) → p ≡ 0 → elementBytes p ≡ 1
+unfolding elementBytes
+elementBytes-int8 p e = ap elementBytes e
+
+pub elementBytes-other : (p : ℕ) → (p ≡ 0 → ⊥) → elementBytes p ≡ 2
+unfolding elementBytes
+elementBytes-other zero f = absurd (f refl)
+elementBytes-other (suc p) f = refl

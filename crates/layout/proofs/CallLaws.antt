@@ -2,8 +2,12 @@
 --     Admitted, admitted     what an accepted box call tells
 --     admit-whole            the box check of the whole cube never refuses
 --     pack-admitted, pack-values     what an accepted packing tells
---     admit-layout .. admit-taken    the checks of a box call, one after another
+--     box-layout .. box-accepted     checks 1 to 4, 9, one after another
+--     admit-box .. admit-taken       checks 6 and 5 after them
 --     box-counts             a box's counts are at most 8192
+--     write-refused .. write-admitted    7 after the others
+--     pack-whole, unpack-whole       calls on the whole cube are box calls
+--     admit-front            an accepted box call passed checks 1 to 4, 9
 use Prim.Native.Nat.{ℕ, _+_, _≤_, _<_}
 use native.Mathlib.Omega.{arith}
 use mathlib.Core.Path.{_≡_, refl, sym, ap, _∙_}
@@ -25,7 +29,7 @@ use Rattle.layout.specs.declared.ElementBox.{ElementBox}
 use Rattle.layout.specs.Geometry.{elementCount, cubeExtent}
 use Rattle.layout.specs.Boxes.{wholeBox, boxCount, boxInside}
 use Rattle.layout.specs.Rules.{layoutChecks, boxChecks, storageChecks, cubeChecks, admitChecks}
-use Rattle.layout.specs.Calls.{packAnswer}
+use Rattle.layout.specs.Calls.{packAnswer, unpackAnswer, writeBoxAnswer, readBoxAnswer}
 use Rattle.layout.proofs.Taken.{Taken, taken}
 use Rattle.layout.proofs.BoxLaws.{BoxTaken, box-taken, whole-inside, whole-count}
 
@@ -48,27 +52,51 @@ module _ (q : CubeLayout) (count given len : ℕ) where
       leb-true (q .start + cubeExtent q) len
       (inOrder-held 0 BufferLength t [] (inOrder-rest 0 ElementCount (eqb given count) (require BufferLength t ∷ []) e))
 
-box-inside : (q : CubeLayout) (box : ElementBox) → inOrder (boxChecks q box) ≡ Accepted → boxInside q box ≡ true
-unfolding boxChecks
-box-inside q box e = inOrder-held 0 Bounds (boxInside q box) [] e
+-- ---- checks 1 to 4, 9
+module _ (q : CubeLayout) (box : ElementBox) where
+  pub box-layout : inOrder (boxChecks q box) ≡ Accepted → inOrder (layoutChecks q) ≡ Accepted
+  unfolding boxChecks
+  box-layout e = inOrder-front (layoutChecks q) (require Bounds (boxInside q box) ∷ []) e
+
+  pub box-inside : inOrder (boxChecks q box) ≡ Accepted → boxInside q box ≡ true
+  unfolding boxChecks
+  box-inside e = inOrder-held 0 Bounds (boxInside q box) [] (inOrder-back (layoutChecks q) (require Bounds (boxInside q box) ∷ []) e)
+
+  pub box-refused : {r : Refusal} {i : ℕ} → inOrder (layoutChecks q) ≡ Refused r i → Refused r i ≡ inOrder (boxChecks q box)
+  unfolding boxChecks
+  box-refused e = sym (inOrder-refused (layoutChecks q) (require Bounds (boxInside q box) ∷ []) e)
+
+  pub box-outside : inOrder (layoutChecks q) ≡ Accepted → boxInside q box ≡ false → Refused Bounds 0 ≡ inOrder (boxChecks q box)
+  unfolding boxChecks
+  box-outside ok e = sym (inOrder-passed (layoutChecks q) (require Bounds (boxInside q box) ∷ []) ok ∙ inOrder-stop 0 Bounds [] e)
+
+  pub box-accepted : inOrder (layoutChecks q) ≡ Accepted → boxInside q box ≡ true → Accepted ≡ inOrder (boxChecks q box)
+  unfolding boxChecks
+  box-accepted ok e = sym (inOrder-passed (layoutChecks q) (require Bounds (boxInside q box) ∷ []) ok ∙ inOrder-next 0 Bounds [] e ∙ inOrder-nil)
+
+-- what accepted checks 1 to 4, 9 tell
+pub box-layout-taken : (q : CubeLayout) (box : ElementBox) → inOrder (boxChecks q box) ≡ Accepted → Taken q
+box-layout-taken q box e = taken q (box-layout q box e)
+
+pub box-area-taken : (q : CubeLayout) (box : ElementBox) → inOrder (boxChecks q box) ≡ Accepted → BoxTaken q box
+box-area-taken q box e = box-taken q box (box-inside q box e)
 
 pub admitted : (q : CubeLayout) (box : ElementBox) (given len : ℕ) → inOrder (admitChecks q box given len) ≡ Accepted → Admitted q box given len
 unfolding admitChecks
 admitted q box given len e =
-    let front = inOrder-front (layoutChecks q ++ boxChecks q box) (storageChecks q (boxCount box) given len) e in
-    let back = inOrder-back (layoutChecks q ++ boxChecks q box) (storageChecks q (boxCount box) given len) e in
+    let front = inOrder-front (boxChecks q box) (storageChecks q (boxCount box) given len) e in
+    let back = inOrder-back (boxChecks q box) (storageChecks q (boxCount box) given len) e in
     record {
-      layout = taken q (inOrder-front (layoutChecks q) (boxChecks q box) front);
-      area = box-taken q box (box-inside q box (inOrder-back (layoutChecks q) (boxChecks q box) front));
+      layout = box-layout-taken q box front;
+      area = box-area-taken q box front;
       count = storage-count q (boxCount box) given len back;
       room = storage-room q (boxCount box) given len back;
     }
 
 -- the box check of the whole cube holds once the layout is taken
-whole-front : (q : CubeLayout) (a : Answer) → inOrder (layoutChecks q) ≡ a → inOrder (layoutChecks q ++ boxChecks q (wholeBox q)) ≡ a
-unfolding boxChecks
-whole-front q Accepted e = inOrder-passed (layoutChecks q) (boxChecks q (wholeBox q)) e ∙ inOrder-next 0 Bounds [] (whole-inside q (taken q e)) ∙ inOrder-nil
-whole-front q (Refused r i) e = inOrder-refused (layoutChecks q) (boxChecks q (wholeBox q)) e
+whole-front : (q : CubeLayout) (a : Answer) → inOrder (layoutChecks q) ≡ a → inOrder (boxChecks q (wholeBox q)) ≡ a
+whole-front q Accepted e = sym (box-accepted q (wholeBox q) e (whole-inside q (taken q e)))
+whole-front q (Refused r i) e = sym (box-refused q (wholeBox q) e)
 
 -- two lists of checks with one answer, followed by the same checks
 same-front : (xs ys zs : List Answer) (a : Answer) → inOrder xs ≡ a → inOrder ys ≡ a → inOrder (xs ++ zs) ≡ inOrder (ys ++ zs)
@@ -78,7 +106,7 @@ same-front xs ys zs (Refused r i) p q = inOrder-refused xs zs p ∙ sym (inOrder
 pub admit-whole : (q : CubeLayout) (given len : ℕ) → inOrder (admitChecks q (wholeBox q) given len) ≡ inOrder (cubeChecks q given len)
 unfolding admitChecks cubeChecks
 admit-whole q given len =
-    same-front (layoutChecks q ++ boxChecks q (wholeBox q)) (layoutChecks q) (storageChecks q (boxCount (wholeBox q)) given len) (inOrder (layoutChecks q))
+    same-front (boxChecks q (wholeBox q)) (layoutChecks q) (storageChecks q (boxCount (wholeBox q)) given len) (inOrder (layoutChecks q))
     (whole-front q (inOrder (layoutChecks q)) refl)
     refl
     ∙ ap (λ (n : ℕ). inOrder (layoutChecks q ++ storageChecks q n given len)) (whole-count q)
@@ -96,46 +124,67 @@ pack-values q raw len e = inOrder-back (cubeChecks q (length raw) len) (valueChe
 
 -- ---- checks 1 to 4, 9, 6, 5 as the code goes through them
 module _ (q : CubeLayout) (box : ElementBox) (given len : ℕ) where
-  pub admit-layout : {r : Refusal} {i : ℕ} → inOrder (layoutChecks q) ≡ Refused r i → Refused r i ≡ inOrder (admitChecks q box given len)
+  pub admit-box : {r : Refusal} {i : ℕ} → inOrder (boxChecks q box) ≡ Refused r i → Refused r i ≡ inOrder (admitChecks q box given len)
   unfolding admitChecks
-  admit-layout e = sym (inOrder-refused (layoutChecks q ++ boxChecks q box) (storageChecks q (boxCount box) given len) (inOrder-refused (layoutChecks q) (boxChecks q box) e))
+  admit-box e = sym (inOrder-refused (boxChecks q box) (storageChecks q (boxCount box) given len) e)
 
-  module _ (ok : inOrder (layoutChecks q) ≡ Accepted) where
-    pub admit-bounds : boxInside q box ≡ false → Refused Bounds 0 ≡ inOrder (admitChecks q box given len)
-    unfolding admitChecks boxChecks
-    admit-bounds e =
-        sym (inOrder-refused (layoutChecks q ++ boxChecks q box) (storageChecks q (boxCount box) given len) (inOrder-passed (layoutChecks q) (boxChecks q box) ok ∙ inOrder-stop 0 Bounds [] e))
+  module _ (ok : inOrder (boxChecks q box) ≡ Accepted) where
+    to-storage : inOrder (admitChecks q box given len) ≡ inOrder (storageChecks q (boxCount box) given len)
+    unfolding admitChecks
+    to-storage = inOrder-passed (boxChecks q box) (storageChecks q (boxCount box) given len) ok
 
-    module _ (inside : boxInside q box ≡ true) where
-      to-storage : inOrder (admitChecks q box given len) ≡ inOrder (storageChecks q (boxCount box) given len)
-      unfolding admitChecks boxChecks
-      to-storage =
-          inOrder-passed (layoutChecks q ++ boxChecks q box) (storageChecks q (boxCount box) given len)
-          (inOrder-passed (layoutChecks q) (boxChecks q box) ok ∙ inOrder-next 0 Bounds [] inside ∙ inOrder-nil)
+    pub admit-count : (given ≡ boxCount box → ⊥) → Refused ElementCount 0 ≡ inOrder (admitChecks q box given len)
+    unfolding storageChecks
+    admit-count f = sym (to-storage ∙ inOrder-stop 0 ElementCount (require BufferLength (leb (q .start + cubeExtent q) len) ∷ []) (ne-eqb given (boxCount box) f))
 
-      pub admit-count : (given ≡ boxCount box → ⊥) → Refused ElementCount 0 ≡ inOrder (admitChecks q box given len)
+    module _ (count : given ≡ boxCount box) where
+      pub admit-room : len < q .start + cubeExtent q → Refused BufferLength 0 ≡ inOrder (admitChecks q box given len)
       unfolding storageChecks
-      admit-count f = sym (to-storage ∙ inOrder-stop 0 ElementCount (require BufferLength (leb (q .start + cubeExtent q) len) ∷ []) (ne-eqb given (boxCount box) f))
+      admit-room h =
+          sym
+          (to-storage
+          ∙ inOrder-next 0 ElementCount (require BufferLength (leb (q .start + cubeExtent q) len) ∷ []) (eq-eqb given (boxCount box) count)
+          ∙ inOrder-stop 0 BufferLength [] (lt-leb (q .start + cubeExtent q) len h))
 
-      module _ (count : given ≡ boxCount box) where
-        pub admit-room : len < q .start + cubeExtent q → Refused BufferLength 0 ≡ inOrder (admitChecks q box given len)
-        unfolding storageChecks
-        admit-room h =
-            sym
-            (to-storage
-            ∙ inOrder-next 0 ElementCount (require BufferLength (leb (q .start + cubeExtent q) len) ∷ []) (eq-eqb given (boxCount box) count)
-            ∙ inOrder-stop 0 BufferLength [] (lt-leb (q .start + cubeExtent q) len h))
-
-        pub admit-taken : q .start + cubeExtent q ≤ len → Accepted ≡ inOrder (admitChecks q box given len)
-        unfolding storageChecks
-        admit-taken h =
-            sym
-            (to-storage
-            ∙ inOrder-next 0 ElementCount (require BufferLength (leb (q .start + cubeExtent q) len) ∷ []) (eq-eqb given (boxCount box) count)
-            ∙ inOrder-next 0 BufferLength [] (le-leb (q .start + cubeExtent q) len h)
-            ∙ inOrder-nil)
+      pub admit-taken : q .start + cubeExtent q ≤ len → Accepted ≡ inOrder (admitChecks q box given len)
+      unfolding storageChecks
+      admit-taken h =
+          sym
+          (to-storage
+          ∙ inOrder-next 0 ElementCount (require BufferLength (leb (q .start + cubeExtent q) len) ∷ []) (eq-eqb given (boxCount box) count)
+          ∙ inOrder-next 0 BufferLength [] (le-leb (q .start + cubeExtent q) len h)
+          ∙ inOrder-nil)
 
 -- the counts of a box inside a taken cube
 pub box-counts : (q : CubeLayout) (box : ElementBox) → Taken q → BoxTaken q box → (box .channels ≤ 8192) × (box .rows ≤ 8192) × (box .columns ≤ 8192)
 box-counts q box ok t =
     (omega (arith, t .channels .fit, ok .channels-le), omega (arith, t .rows .fit, ok .height-le), omega (arith, t .columns .fit, ok .width-le))
+
+pub admit-front : (q : CubeLayout) (box : ElementBox) (given len : ℕ) → inOrder (admitChecks q box given len) ≡ Accepted → inOrder (boxChecks q box) ≡ Accepted
+unfolding admitChecks
+admit-front q box given len e = inOrder-front (boxChecks q box) (storageChecks q (boxCount box) given len) e
+
+-- ---- calls that write: 7 after the others
+module _ (q : CubeLayout) (box : ElementBox) (xs : List ℤ) (len : ℕ) where
+  pub write-refused : {r : Refusal} {i : ℕ} → inOrder (admitChecks q box (length xs) len) ≡ Refused r i → Refused r i ≡ writeBoxAnswer q box xs len
+  unfolding writeBoxAnswer
+  write-refused e = sym (inOrder-refused (admitChecks q box (length xs) len) (valueChecks (q .precision) xs) e)
+
+  pub write-values : inOrder (admitChecks q box (length xs) len) ≡ Accepted → inOrder (valueChecks (q .precision) xs) ≡ writeBoxAnswer q box xs len
+  unfolding writeBoxAnswer
+  write-values e = sym (inOrder-passed (admitChecks q box (length xs) len) (valueChecks (q .precision) xs) e)
+
+  pub write-admitted : writeBoxAnswer q box xs len ≡ Accepted → inOrder (admitChecks q box (length xs) len) ≡ Accepted
+  unfolding writeBoxAnswer
+  write-admitted e = inOrder-front (admitChecks q box (length xs) len) (valueChecks (q .precision) xs) e
+
+-- packing is judged as writing the whole box
+pub pack-whole : (q : CubeLayout) (raw : List ℤ) (len : ℕ) → packAnswer q raw len ≡ writeBoxAnswer q (wholeBox q) raw len
+unfolding packAnswer writeBoxAnswer
+pack-whole q raw len =
+    sym (same-front (admitChecks q (wholeBox q) (length raw) len) (cubeChecks q (length raw) len) (valueChecks (q .precision) raw) (inOrder (cubeChecks q (length raw) len)) (admit-whole q (length raw) len) refl)
+
+-- and unpacking as reading it
+pub unpack-whole : (q : CubeLayout) (given len : ℕ) → unpackAnswer q given len ≡ readBoxAnswer q (wholeBox q) given len
+unfolding unpackAnswer readBoxAnswer
+unpack-whole q given len = sym (admit-whole q given len)

@@ -15,6 +15,10 @@ use Rattle.layout.specs.Geometry.{sizeOf, surfaces, elementPosition, ato
 use Rattle.layout.proofs.Taken.{Taken}
 use Rattle.layout.proofs.Views.{element-atom, element-surface}
 
+pub element-column : (q : CubeLayout) (c h w i : ℕ) → elementPosition q c h (w + i) ≡ elementPosition q c h w + 32 * i
+unfolding elementPosition
+element-column q c h w i = omega arith
+
 module _ (q : CubeLayout) (ok : Taken q) where
   pub atom-within : (s h w k : ℕ) → s < surfaces q → h < q .height → w < q .width → k ≤ 32 → atomPosition q s h w k ≤ q .start + cubeExtent q
   unfolding atomPosition cubeExtent
@@ -55,10 +59,6 @@ module _ (q : CubeLayout) (ok : Taken q) where
       (λ i. subst⁻¹ (λ (x : ℕ). n % x ≡ 0) i (omega arith))
       (λ i. subst⁻¹ (λ (x : ℕ). n % x ≡ 0) i (omega (arith, es, el, st, ap (λ (x : ℕ). c * x) i)))
       size-cases
-
-  pub element-column : (c h w i : ℕ) → elementPosition q c h (w + i) ≡ elementPosition q c h w + 32 * i
-  unfolding elementPosition
-  element-column c h w i = omega arith
 
   pub surfaces-pos : 0 < surfaces q
   unfolding surfaces

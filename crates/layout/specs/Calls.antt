@@ -49,4 +49,4 @@ extentQuantity q = quantity (inOrder (layoutChecks q)) (cubeExtent q)
 
 -- the position of an element: 1, 2, 3, 4, 9
 unfoldable pub positionQuantity : CubeLayout → ℕ → ℕ → ℕ → Quantity
-positionQuantity q c h w = quantity (inOrder (layoutChecks q ++ boxChecks q (oneElement c h w))) (elementPosition q c h w)
+positionQuantity q c h w = quantity (inOrder (boxChecks q (oneElement c h w))) (elementPosition q c h w)

@@ -37,9 +37,9 @@ layoutChecks q =
     ∷ require CubeStart (wholeAtoms (q .start))
     ∷ []
 
--- 9: the box has elements, all in the cube
+-- 1 to 4, 9: the box has elements, all in the cube
 unfoldable pub boxChecks : CubeLayout → ElementBox → List Answer
-boxChecks q b = require Bounds (boxInside q b) ∷ []
+boxChecks q b = layoutChecks q ++ (require Bounds (boxInside q b) ∷ [])
 
 -- 6 and 5: `given` elements where `count` are wanted, and a buffer of `len` bytes that holds the start and the extent
 unfoldable pub storageChecks : CubeLayout → ℕ → ℕ → ℕ → List Answer
@@ -52,4 +52,4 @@ cubeChecks q given len = layoutChecks q ++ storageChecks q (elementCount q) give
 
 -- 1 to 4, 9, 6, 5: a box of the cube
 unfoldable pub admitChecks : CubeLayout → ElementBox → ℕ → ℕ → List Answer
-admitChecks q b given len = layoutChecks q ++ boxChecks q b ++ storageChecks q (boxCount b) given len
+admitChecks q b given len = boxChecks q b ++ storageChecks q (boxCount b) given len

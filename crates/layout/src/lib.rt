@@ -3,13 +3,9 @@ mod measure;
 mod rules;
 
 ghost use mathlib.Core.Path.{_≡_};
-ghost use mathlib.Core.List.{_++_};
-ghost use Prim.Native.Nat.{_+_, _*_, _^_, _≤_, _<_};
-ghost use Rattle.refusal.specs.declared.Answer.the-variants.{Accepted};
 ghost use Rattle.refusal.specs.Checks.{inOrder};
-ghost use Rattle.layout.specs.Geometry.{cubeExtent, elementPosition};
-ghost use Rattle.layout.specs.Rules.{layoutChecks, admitChecks};
-ghost use Rattle.layout.specs.Calls.{extentQuantity, positionQuantity};
+ghost use Rattle.layout.specs.Rules.{layoutChecks, boxChecks, admitChecks};
+ghost use Rattle.layout.specs.Calls.{extentQuantity};
 use refusal::Answer;
 use refusal::Quantity;
 use refusal::Refusal;
@@ -64,9 +60,9 @@ pub fn extent(layout: CubeLayout) -> Quantity
     }
 }
 
-// Checks 1 to 4, 9, 6, 5 of a call that lends `given` elements for a box and a buffer of `len` bytes.
-pub fn admit(layout: CubeLayout, area: ElementBox, given: usize, len: usize) -> Answer
-    ensures { λ r. ⌜ r ≡ inOrder (admitChecks layout area given len) ⌝ }
+// Checks 1 to 4, 9.
+pub fn check_box(layout: CubeLayout, area: ElementBox) -> Answer
+    ensures { λ r. ⌜ r ≡ inOrder (boxChecks layout area) ⌝ }
 {
     let a = check(layout);
     let Answer::Accepted = a else {
@@ -75,6 +71,17 @@ pub fn admit(layout: CubeLayout, area: ElementBox, given: usize, len: usize) -> 
     if !rules::box_inside(layout, area) {
         return Answer::Refused(Refusal::Bounds, 0);
     }
+    Answer::Accepted
+}
+
+// Checks 1 to 4, 9, 6, 5 of a call that lends `given` elements for a box and a buffer of `len` bytes.
+pub fn admit(layout: CubeLayout, area: ElementBox, given: usize, len: usize) -> Answer
+    ensures { λ r. ⌜ r ≡ inOrder (admitChecks layout area given len) ⌝ }
+{
+    let a = check_box(layout, area);
+    let Answer::Accepted = a else {
+        return a;
+    };
     if given as u64 != measure::box_count(area) {
         return Answer::Refused(Refusal::ElementCount, 0);
     }

@@ -1,0 +1,106 @@
+-- What the calls' loops come to in the terms of the promises: packing, unpacking, and writing and reading a box. Assumes nothing.
+--     written, was-read, packed-whole, unpacked-whole     accepted calls
+--     write-kept, read-kept, pack-kept, unpack-kept       refused calls
+--     padding-first, padding-some, padding-none           where the last surface begins; clearing it, or not
+use Prim.Native.Nat.{ℕ, _+_, _-_, _*_, _/_, _%_, _≤_, _<_}
+use native.Mathlib.Omega.{arith}
+use mathlib.Core.Path.{_≡_, refl, sym, ap, _∙_, subst}
+use mathlib.Core.List.{List}
+use lib.ListN.{length, getD}
+use lib.IntN.{ℤ}
+use borrow.Author.Tests.{eq-eqb, ne-eqb}
+use Rattle.refusal.specs.declared.Refusal.{Refusal}
+use Rattle.refusal.specs.declared.Answer.{Answer}
+use Rattle.refusal.specs.declared.Answer.the-variants.{Accepted, Refused}
+use Rattle.refusal.proofs.CheckLaws.{leaves-done, leaves-before}
+use Rattle.layout.specs.declared.CubeLayout.{CubeLayout}
+use Rattle.layout.specs.declared.ElementBox.{ElementBox}
+use Rattle.layout.specs.Geometry.{sizeOf, surfaces, atomPosition, cubeExtent}
+use Rattle.layout.specs.Boxes.{wholeBox}
+use Rattle.layout.specs.Contents.{packed, edited, boxElements, unpacked}
+use Rattle.layout.specs.Calls.{packAnswer, packBuffer, unpackAnswer, unpackElements, writeBoxAnswer, writeBoxBuffer, readBoxAnswer, readBoxElements}
+use Rattle.layout.proofs.Taken.{Taken}
+use Rattle.layout.proofs.ContentLaws.{packed-by-edit}
+use Rattle.layout.proofs.Extents.{surfaces-pos}
+use Rattle.layout.proofs.CallLaws.{Admitted, admitted, write-admitted, pack-whole, unpack-whole}
+use Rattle.cube.specs.Steps.{rowsStored, rowsRead, linesCleared, surfaceCleared, wiped}
+use Rattle.cube.proofs.WriteLaws.{rows-stored}
+use Rattle.cube.proofs.ReadLaws.{rows-read}
+use Rattle.cube.proofs.WipeLaws.{wiped-length, wiped-outside, wiped-padding}
+
+-- ---- writing a box
+module _ (q : CubeLayout) (box : ElementBox) (xs : List ℤ) (before : List ℕ) where
+  pub written : {after : List ℕ} → writeBoxAnswer q box xs (length before) ≡ Accepted → after ≡ rowsStored q box xs (box .rows) before → after ≡ writeBoxBuffer q box xs before
+  unfolding writeBoxBuffer
+  written a e =
+      let m = admitted q box (length xs) (length before) (write-admitted q box xs (length before) a) in
+      e ∙ rows-stored q (m .layout) box (m .area) xs before (m .room) ∙ sym (leaves-done (edited q box xs before) before a)
+
+  pub write-kept : {r : Refusal} {i : ℕ} → writeBoxAnswer q box xs (length before) ≡ Refused r i → before ≡ writeBoxBuffer q box xs before
+  unfolding writeBoxBuffer
+  write-kept a = sym (leaves-before (edited q box xs before) before a)
+
+-- ---- reading a box
+module _ (q : CubeLayout) (box : ElementBox) (buf : List ℕ) (before : List ℤ) where
+  pub was-read : {after : List ℤ} → readBoxAnswer q box (length before) (length buf) ≡ Accepted → after ≡ rowsRead q box buf (box .rows) before → after ≡ readBoxElements q box buf before
+  unfolding readBoxElements readBoxAnswer
+  was-read a e =
+      let m = admitted q box (length before) (length buf) a in
+      e ∙ rows-read q box buf before (m .count) (m .area .columns .some) (m .area .rows .some) ∙ sym (leaves-done (boxElements q box buf) before a)
+
+  pub read-kept : {r : Refusal} {i : ℕ} → readBoxAnswer q box (length before) (length buf) ≡ Refused r i → before ≡ readBoxElements q box buf before
+  unfolding readBoxElements
+  read-kept a = sym (leaves-before (boxElements q box buf) before a)
+
+-- ---- packing
+module _ (q : CubeLayout) (raw : List ℤ) (before : List ℕ) where
+  -- an accepted packing was admitted, also after its padding was cleared
+  pub pack-admits : writeBoxAnswer q (wholeBox q) raw (length before) ≡ Accepted → Admitted q (wholeBox q) (length raw) (length before)
+  pack-admits a = admitted q (wholeBox q) (length raw) (length before) (write-admitted q (wholeBox q) raw (length before) a)
+
+  pub packed-whole : {after : List ℕ} → writeBoxAnswer q (wholeBox q) raw (length before) ≡ Accepted → after ≡ rowsStored q (wholeBox q) raw (q .height) (wiped q before)
+      → after ≡ packBuffer q raw before
+  unfolding packBuffer
+  packed-whole a e =
+      let m = pack-admits a in
+      let ok = m .layout in
+      let room : q .start + cubeExtent q ≤ length (wiped q before) = subst (λ (n : ℕ). q .start + cubeExtent q ≤ n) (sym (wiped-length q before)) (m .room) in
+      e
+      ∙ rows-stored q ok (wholeBox q) (m .area) raw (wiped q before) room
+      ∙ packed-by-edit q ok raw before (wiped q before) (wiped-length q before) (wiped-outside q ok before) (λ p h. wiped-padding q ok before (m .room) p)
+      ∙ sym (leaves-done (packed q raw before) before (pack-whole q raw (length before) ∙ a))
+
+  pub pack-kept : {r : Refusal} {i : ℕ} → writeBoxAnswer q (wholeBox q) raw (length before) ≡ Refused r i → before ≡ packBuffer q raw before
+  unfolding packBuffer
+  pack-kept a = sym (leaves-before (packed q raw before) before (pack-whole q raw (length before) ∙ a))
+
+-- ---- unpacking
+module _ (q : CubeLayout) (buf : List ℕ) (before : List ℤ) where
+  same-call : readBoxElements q (wholeBox q) buf before ≡ unpackElements q buf before
+  unfolding readBoxElements unpackElements unpacked
+  same-call = ap (λ (a : Answer). Rattle.refusal.specs.Checks.leaves a (boxElements q (wholeBox q) buf) before) (sym (unpack-whole q (length before) (length buf)))
+
+  pub unpacked-whole : {after : List ℤ} → readBoxAnswer q (wholeBox q) (length before) (length buf) ≡ Accepted → after ≡ rowsRead q (wholeBox q) buf (q .height) before
+      → after ≡ unpackElements q buf before
+  unpacked-whole a e = was-read q (wholeBox q) buf before a e ∙ same-call
+
+  pub unpack-kept : {r : Refusal} {i : ℕ} → readBoxAnswer q (wholeBox q) (length before) (length buf) ≡ Refused r i → before ≡ unpackElements q buf before
+  unpack-kept a = read-kept q (wholeBox q) buf before a ∙ same-call
+
+-- ---- clearing the padding
+module _ (q : CubeLayout) where
+  -- where the channels do not fill their atoms, the last surface begins past the full ones
+  pub padding-first : (q .channels * sizeOf q % 32 ≡ 0 → ⊥) → q .start + (q .channels * sizeOf q / 32) * q .surface ≡ atomPosition q (surfaces q - 1) 0 0 0
+  unfolding atomPosition surfaces
+  padding-first f =
+      let s : q .channels * sizeOf q / 32 ≡ (q .channels * sizeOf q + 31) / 32 - 1 = omega arith in
+      omega (arith, ap (λ (x : ℕ). x * q .surface) s)
+
+  pub padding-some : (buf : List ℕ) {after : List ℕ} {first : ℕ} → (q .channels * sizeOf q % 32 ≡ 0 → ⊥) → first ≡ atomPosition q (surfaces q - 1) 0 0 0
+      → after ≡ linesCleared first (q .line) (32 * q .width) (q .height) buf → after ≡ wiped q buf
+  unfolding wiped surfaceCleared
+  padding-some buf f ef e = e ∙ rw (ef, ne-eqb (q .channels * sizeOf q % 32) 0 f)
+
+  pub padding-none : (buf : List ℕ) → q .channels * sizeOf q % 32 ≡ 0 → buf ≡ wiped q buf
+  unfolding wiped
+  padding-none buf e = rw (eq-eqb (q .channels * sizeOf q % 32) 0 e)

@@ -1,0 +1,33 @@
+-- `cube::judge` meets its contract: it makes the definition's checks in their order. Assumes nothing.
+use mathlib.Core.Path.{sym, _∙_}
+use Rattle.layout.proofs.CallLaws.{write-refused, write-values}
+use borrow.Author.Needs.{needs}
+use Rattle.cube.proofs.judge.Statement.{statement}
+use Rattle.cube.proofs.judge.Tie as tie
+
+admit-requires : tie.Need-admit-requires
+admit-requires c κs = search needs
+
+enum-told : tie.Need-enum-told
+enum-told c = search needs
+
+enum-told-2 : tie.Need-enum-told-2
+enum-told-2 c = search needs
+
+returns : tie.Need-returns
+returns c = let d = c .before .before in
+    let a = d .before .args in
+    c .enum-told2 .given .1 ∙ write-refused (a .layout) (a .area) (a .elements .now) (a .len) (sym (d .admit .ensures) ∙ c .enum-told2 .given .1)
+
+check-values-requires : tie.Need-check-values-requires
+check-values-requires c κs = search needs
+
+returns-2 : tie.Need-returns-2
+returns-2 c = let d = c .before .before .before in
+    let a = d .before .args in
+    c .check-values .ensures ∙ write-values (a .layout) (a .area) (a .elements .now) (a .len) (sym (d .admit .ensures) ∙ c .before .enum-told .given .1)
+
+pub judge-spec : {M : Type 1} → statement M
+judge-spec =
+    tie.close
+    (tie.spec admit-requires enum-told enum-told-2 returns check-values-requires returns-2)

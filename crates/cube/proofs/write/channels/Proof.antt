@@ -1,0 +1,77 @@
+-- `cube::write::channels` meets its contract. The loop's invariant: the first n channels of the row are stored. Assumes nothing.
+use Prim.Native.Nat.{ℕ, _-_, _≤_}
+use native.Mathlib.Omega.{arith}
+use mathlib.Core.Path.{_≡_, sym, ap, subst, _∙_}
+use lib.ListN.{length}
+use Rattle.refusal.specs.declared.Answer.the-variants.{Accepted}
+use Rattle.refusal.specs.Checks.{inOrder}
+use Rattle.layout.specs.Rules.{admitChecks}
+use Rattle.layout.proofs.CallLaws.{Admitted, admitted, box-counts}
+use Rattle.cube.specs.Steps.{channelsStored}
+use Rattle.cube.proofs.WriteLaws.{channels-start, channels-step, channelsStored-length}
+use Rattle.cube.proofs.write.channels.Statement.{statement}
+use Rattle.cube.proofs.write.channels.Tie as tie
+
+abbrev Inv-loop : tie.InvT-loop
+Inv-loop layout area r elements buffer₀ count n₀ buffer n = (n ≤ area .channels) × (buffer ≡ channelsStored layout area elements r n buffer₀)
+
+abbrev μ-loop : tie.MeasureT-loop
+μ-loop layout area r elements buffer₀ count n₀ buffer n = area .channels - n
+
+-- what is lent keeps its length
+long : (c : tie.At-loop Inv-loop μ-loop) → length (c .loop .buffer) ≡ length (c .before .before .args .buffer .now)
+long c =
+    let a = c .before .before .args in
+    ap length (c .loop .inv .1) ∙ channelsStored-length (a .layout) (a .area) (a .elements .now) (a .r) (c .loop .n) (a .buffer .now)
+
+-- the box's counts are small
+bound : (c : tie.Start Inv-loop μ-loop) → c .args .area .channels ≤ 8192
+bound c =
+    let a = c .args in
+    let m = admitted (a .layout) (a .area) (length (a .elements .now)) (length (a .buffer .now)) (c .pre .0) in
+    box-counts (a .layout) (a .area) (m .layout) (m .area) .0
+
+loop-holds : tie.Need-loop-holds Inv-loop μ-loop
+loop-holds c = let a = c .before .args in (omega arith, channels-start (a .layout) (a .area) (a .elements .now) (a .r) (a .buffer .now))
+
+run-requires : tie.Need-run-requires Inv-loop μ-loop
+run-requires c κs = let l = c .before .before in
+    let s = l .before .before in
+    let a = s .args in
+    (subst (λ (n : ℕ). inOrder (admitChecks (a .layout) (a .area) (length (a .elements .now)) n) ≡ Accepted) (sym (long l)) (s .pre .0), (c .before .loop-test .taken, s .pre .1))
+
+add-n : tie.Need-add-n Inv-loop μ-loop
+add-n c = let l = c .before .before .before .before .before in
+    omega (arith, l .loop .inv .0, bound (l .before .before))
+
+loop-less : tie.Need-loop-less Inv-loop μ-loop
+loop-less c = omega arith
+
+loop-again : tie.Need-loop-again Inv-loop μ-loop
+loop-again c = let f = c .before .before in
+    let l = f .before .before .before in
+    let a = l .before .before .args in
+    (omega arith, channels-step (a .layout) (a .area) (a .elements .now) (a .buffer .now) (a .r) (l .loop .n) (l .loop .inv .1) (f .run .ensures))
+
+same-length : tie.Need-same-length Inv-loop μ-loop
+same-length c = long (c .before)
+
+returns : tie.Need-returns Inv-loop μ-loop
+returns c = let l = c .before in
+    let a = l .before .before .args in
+    let all : l .loop .n ≡ a .area .channels = omega (arith, l .loop .inv .0) in
+    l .loop .inv .1 ∙ ap (λ (n : ℕ). channelsStored (a .layout) (a .area) (a .elements .now) (a .r) n (a .buffer .now)) all
+
+pub channels-spec : {M : Type 1} → statement M
+channels-spec =
+    tie.close
+    (tie.spec
+    Inv-loop
+    μ-loop
+    loop-holds
+    run-requires
+    add-n
+    loop-less
+    loop-again
+    same-length
+    returns)

@@ -1,0 +1,121 @@
+// Feature cubes packed and read back, whole or a box at a time (scope paper, "Cells and cubes").
+mod place;
+mod read;
+mod wipe;
+mod write;
+
+ghost use mathlib.Core.Path.{_≡_};
+ghost use mathlib.Core.List.{_++_};
+ghost use lib.ListN.{length};
+ghost use Rattle.refusal.specs.Checks.{inOrder};
+ghost use Rattle.elements.specs.Values.{valueChecks};
+ghost use Rattle.layout.specs.Boxes.{wholeBox};
+ghost use Rattle.layout.specs.Rules.{admitChecks};
+ghost use Rattle.layout.specs.Calls.{packAnswer, packBuffer, unpackAnswer, unpackElements, writeBoxAnswer, writeBoxBuffer, readBoxAnswer, readBoxElements, positionQuantity};
+use layout::CubeLayout;
+use layout::ElementBox;
+use refusal::Answer;
+use refusal::Quantity;
+
+// The box of the whole cube.
+fn whole(layout: CubeLayout) -> ElementBox
+    ensures { λ b. ⌜ b ≡ wholeBox layout ⌝ }
+{
+    ElementBox {
+        channel: 0,
+        row: 0,
+        column: 0,
+        channels: layout.channels,
+        rows: layout.height,
+        columns: layout.width,
+    }
+}
+
+// All checks of a call that writes a box: 1 to 4, 9, 6, 5, 7.
+fn judge(layout: CubeLayout, area: ElementBox, elements: &[i16], len: usize) -> Answer
+    ensures { λ r. ⌜ r ≡ writeBoxAnswer layout area (now (elements .entry)) len ⌝ }
+{
+    let a = layout::admit(layout, area, elements.len(), len);
+    let Answer::Accepted = a else {
+        return a;
+    };
+    elements::check_values(layout.precision, elements)
+}
+
+// Packs a raw tensor into a buffer: every atom is written whole, its padding as 0; every other byte stays.
+pub fn pack(layout: CubeLayout, elements: &[i16], buffer: &mut [u8]) -> Answer
+    ensures answered { λ r. ⌜ r ≡ packAnswer layout (now (elements .entry)) (length (now (buffer .entry))) ⌝ }
+    ensures left { λ r. ⌜ now (buffer .exit) ≡ packBuffer layout (now (elements .entry)) (now (buffer .entry)) ⌝ }
+{
+    let area = whole(layout);
+    let a = judge(layout, area, elements, buffer.len());
+    let Answer::Accepted = a else {
+        return a;
+    };
+    wipe::padding(layout, buffer);
+    write::rows(layout, area, elements, buffer);
+    Answer::Accepted
+}
+
+// Reads a packed cube back into a raw tensor; padding is ignored.
+pub fn unpack(layout: CubeLayout, buffer: &[u8], elements: &mut [i16]) -> Answer
+    ensures answered { λ r. ⌜ r ≡ unpackAnswer layout (length (now (elements .entry))) (length (now (buffer .entry))) ⌝ }
+    ensures left { λ r. ⌜ now (elements .exit) ≡ unpackElements layout (now (buffer .entry)) (now (elements .entry)) ⌝ }
+{
+    let area = whole(layout);
+    let a = layout::admit(layout, area, elements.len(), buffer.len());
+    let Answer::Accepted = a else {
+        return a;
+    };
+    read::rows(layout, area, buffer, elements);
+    Answer::Accepted
+}
+
+// Writes the elements of a box, in raw order over the box, and no other byte.
+pub fn write_box(
+    layout: CubeLayout,
+    area: ElementBox,
+    elements: &[i16],
+    buffer: &mut [u8],
+) -> Answer
+    ensures answered { λ r. ⌜ r ≡ writeBoxAnswer layout area (now (elements .entry)) (length (now (buffer .entry))) ⌝ }
+    ensures left { λ r. ⌜ now (buffer .exit) ≡ writeBoxBuffer layout area (now (elements .entry)) (now (buffer .entry)) ⌝ }
+{
+    let a = judge(layout, area, elements, buffer.len());
+    let Answer::Accepted = a else {
+        return a;
+    };
+    write::rows(layout, area, elements, buffer);
+    Answer::Accepted
+}
+
+// Reads the elements of a box, in raw order over the box.
+pub fn read_box(layout: CubeLayout, area: ElementBox, buffer: &[u8], elements: &mut [i16]) -> Answer
+    ensures answered { λ r. ⌜ r ≡ readBoxAnswer layout area (length (now (elements .entry))) (length (now (buffer .entry))) ⌝ }
+    ensures left { λ r. ⌜ now (elements .exit) ≡ readBoxElements layout area (now (buffer .entry)) (now (elements .entry)) ⌝ }
+{
+    let a = layout::admit(layout, area, elements.len(), buffer.len());
+    let Answer::Accepted = a else {
+        return a;
+    };
+    read::rows(layout, area, buffer, elements);
+    Answer::Accepted
+}
+
+// The byte at which an element begins.
+pub fn position(layout: CubeLayout, channel: u32, row: u32, column: u32) -> Quantity
+    ensures { λ r. ⌜ r ≡ positionQuantity layout channel row column ⌝ }
+{
+    let one = ElementBox {
+        channel: channel,
+        row: row,
+        column: column,
+        channels: 1,
+        rows: 1,
+        columns: 1,
+    };
+    match layout::check_box(layout, one) {
+        Answer::Refused(refusal, at) => Quantity::Denied(refusal, at),
+        Answer::Accepted => Quantity::Is(place::position_of(layout, channel, row, column)),
+    }
+}

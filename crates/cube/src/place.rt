@@ -1,0 +1,42 @@
+// Where an element, and a run of a box, begins.
+ghost use mathlib.Core.Path.{_≡_};
+ghost use Prim.Native.Nat.{_<_, _≤_};
+ghost use Rattle.refusal.specs.declared.Answer.the-variants.{Accepted};
+ghost use Rattle.refusal.specs.Checks.{inOrder};
+ghost use Rattle.layout.specs.Geometry.{elementPosition};
+ghost use Rattle.layout.specs.Rules.{layoutChecks, boxChecks};
+ghost use Rattle.cube.specs.Steps.{runPosition, runIndex};
+use layout::CubeLayout;
+use layout::ElementBox;
+
+// start + floor(c·e/32)·surface + h·line + w·32 + (c·e mod 32).
+pub(crate) fn position_of(layout: CubeLayout, channel: u32, row: u32, column: u32) -> u64
+    requires { ⌜ inOrder (layoutChecks layout) ≡ Accepted ⌝ }
+    requires { ⌜ (channel < layout .channels) × (row < layout .height) × (column < layout .width) ⌝ }
+    ensures { λ r. ⌜ r ≡ elementPosition layout channel row column ⌝ }
+{
+    let bytes = channel * elements::element_bytes(layout.precision);
+    let surface = (bytes / 32) as u64 * layout.surface as u64;
+    let line = row as u64 * layout.line as u64;
+    layout.start as u64 + surface + line + (column * 32) as u64 + (bytes % 32) as u64
+}
+
+// Where channel n of the box's row r begins in the buffer.
+pub(crate) fn run_position(layout: CubeLayout, area: ElementBox, n: u32, r: u32) -> usize
+    requires { ⌜ inOrder (boxChecks layout area) ≡ Accepted ⌝ }
+    requires { ⌜ (n < area .channels) × (r < area .rows) ⌝ }
+    ensures { λ p. ⌜ p ≡ runPosition layout area n r ⌝ }
+{
+    let channel = area.channel + n;
+    let row = area.row + r;
+    position_of(layout, channel, row, area.column) as usize
+}
+
+// Where channel n of the box's row r begins among the caller's elements.
+pub(crate) fn run_index(area: ElementBox, n: u32, r: u32) -> usize
+    requires { ⌜ (area .channels ≤ 8192) × (area .rows ≤ 8192) × (area .columns ≤ 8192) ⌝ }
+    requires { ⌜ (n < area .channels) × (r < area .rows) ⌝ }
+    ensures { λ i. ⌜ i ≡ runIndex area n r ⌝ }
+{
+    (n as usize * area.rows as usize + r as usize) * area.columns as usize
+}
