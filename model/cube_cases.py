@@ -6,17 +6,15 @@ described in README.md.
 """
 
 import random
-from collections import namedtuple
 from itertools import combinations, product
 
+from cases import case_type, lent_case, with_changes
 from cube import ATOM, U32_MAX, Box, CubeLayout, extent_bytes, whole_box
 
-Case = namedtuple("Case", "op width height channels precision line surface start c h w nc nh nw"
-                          " n m seed base span fault_index fault_value")
+CubeCase = case_type("CubeCase",
+                     "width height channels precision line surface start c h w nc nh nw")
 
 PACK, UNPACK, WRITE_BOX, READ_BOX, POSITION, EXTENT = range(6)
-ELEMENTS_MAX = 8192
-BUFFER_MAX = 65536
 
 EXAMPLE = CubeLayout(3, 2, 40, 0, 128, 256, 0)
 INT16_EXAMPLE = CubeLayout(3, 2, 20, 1, 128, 256, 32)
@@ -34,13 +32,9 @@ def layout(width, height, channels, precision, line_more=0, surface_more=0, star
 
 def lent(op, q, box, more=0, **changes):
     """An accepted packing or box call (sizes permitting), its buffer `more` bytes longer, then changed."""
-    narrow = q.precision == 0 and op in (PACK, WRITE_BOX)
-    t = Case(op, *q, *(box if op in (WRITE_BOX, READ_BOX) else (0,) * 6),
-             n=min(box.channels * box.rows * box.columns, ELEMENTS_MAX),
-             m=min(q.start + extent_bytes(q) + more, BUFFER_MAX), seed=0,
-             base=32640 if narrow else 0, span=256 if narrow else 65536,
-             fault_index=U32_MAX, fault_value=0)._replace(**changes)
-    return t if t.fault_index < t.n else t._replace(fault_index=t.n)
+    t = CubeCase(op, *q, *(box if op in (WRITE_BOX, READ_BOX) else ()))
+    return lent_case(t, box.channels * box.rows * box.columns, q.start + extent_bytes(q) + more,
+                     op in (PACK, WRITE_BOX), **changes)
 
 
 def whole(op, q, more=0, **changes):
@@ -50,8 +44,7 @@ def whole(op, q, more=0, **changes):
 
 def asked(op, q, c=0, h=0, w=0, **changes):
     """A position or extent call."""
-    return Case(op, *q, c, h, w, *(0,) * 7, span=1, fault_index=0,
-                fault_value=0)._replace(**changes)
+    return CubeCase(op, *q, c, h, w)._replace(**changes)
 
 
 def any_call(op, q, **changes):
@@ -345,21 +338,12 @@ def random_asked(rng):
     return asked(POSITION, q, rng.randrange(q.channels), rng.randrange(q.height), rng.randrange(q.width))
 
 
-def nearby(rng, value, most):
-    """Another number near a number, or an extreme one."""
-    return min(max(0, rng.choice((0, value - 1, value + 1, value - 32, value + 32, 2 * value, 8193,
-                                  U32_MAX))), most)
-
-
 def spoiled(rng, t):
     """A case with one to three of its numbers changed."""
     names = ["width", "height", "channels", "precision", "line", "surface", "start"]
     names += ["n", "m"] if t.op in (PACK, UNPACK, WRITE_BOX, READ_BOX) else []
     names += ["c", "h", "w", "nc", "nh", "nw"] if t.op in (WRITE_BOX, READ_BOX) else []
-    for name in rng.sample(names, rng.choice((1, 1, 2, 3))):
-        most = {"n": ELEMENTS_MAX, "m": BUFFER_MAX}.get(name, U32_MAX)
-        t = t._replace(**{name: nearby(rng, getattr(t, name), most)})
-    return t._replace(fault_index=t.n)
+    return with_changes(rng, t, names)
 
 
 def random_cases():
@@ -383,7 +367,5 @@ GROUPS = (accepted_whole, accepted_ones, accepted_large, accepted_boxes, wrong_s
 
 
 def all_cases():
-    """Every case, with a seed of its own where contents are drawn."""
-    cases = [t for group in GROUPS for t in group()]
-    return [t._replace(seed=i * 2654435761 % 4294967296) if t.n or t.m else t
-            for i, t in enumerate(cases)]
+    """Every case of a cube call."""
+    return [t for group in GROUPS for t in group()]

@@ -1,13 +1,22 @@
-"""Asserts the starred cube cases of the scope paper's "Worked on squared paper".
+"""Asserts the starred cube, weight and conversion cases of the scope paper's "Worked on squared paper".
 
-Beside them stand inputs on which readings of "Cells and cubes" and "Refusal
-numbers" part. Prints nothing if all hold.
+Beside them stand inputs on which readings of "Cells and cubes", "Stalls",
+"Weights", "Pixels" and "Refusal numbers" part. Prints nothing if all hold.
 """
 
+from itertools import product
+
+import pixels
+import weights
 from cube import (Box, CubeLayout, box_positions, element_position, extent, pack, position,
                   read_box, surface_count, unpack, whole_box, write_box)
+from quantize import quantize
+from regions import (NO_RECTANGLE, Rectangle, RegionTable, Slot, edit, empty_table, place, read,
+                     share_position, with_slot)
+from weights import WeightLayout
 
 EXAMPLE = CubeLayout(3, 2, 40, 0, 128, 256, 0)
+WEIGHTS = WeightLayout(3, 65, 1, 2, 0)
 
 
 def starred():
@@ -66,6 +75,108 @@ def boxes():
     assert read_box(EXAMPLE, Box(38, 0, 0, 2, 1, 1), [9, 9], buffer) == (0, 0, [0, 0])
 
 
+def by_hand(n, is_placed, *numbers, q=EXAMPLE):
+    """A table with one slot filled by hand."""
+    table = empty_table(q)
+    return table._replace(slots=with_slot(table.slots, n, Slot(is_placed, Rectangle(*numbers))))
+
+
+def placings():
+    """The paper's sheet example; overlap has no width and no clipping; empty slots do not matter."""
+    one = Rectangle(0, 0, 1, 1)
+    code, _, table = place(empty_table(EXAMPLE), 0, Rectangle(0, 0, 2, 2))
+    assert code == 0 and place(table, 1, Rectangle(1, 0, 2, 1)) == (10, 0, table)
+    assert place(table, 0, one)[0] == place(table, 16, one)[0] == 8
+    assert place(table, 1, Rectangle(2, 0, 0, 1))[0] == place(table, 1, Rectangle(2, 0, 2, 1))[0] == 9
+    assert place(by_hand(0, True, 4294967295, 0, 4, 2), 1, one)[0] == 0
+    assert place(by_hand(0, True, 0, 0, 4294967295, 4294967295), 1, one)[0] == 10
+    assert place(by_hand(0, True, 0, 0, 0, 9), 1, one)[0] == 0
+    assert place(by_hand(0, False, 0, 0, 3, 2), 1, one)[0] == 0
+    sides = [(first, count) for first in range(4) for count in range(4)]
+    for (a, b), (c, d), (e, f), (g, h) in product(sides, sides, sides[::3], sides[::3]):
+        spots = set(product(range(a, a + b), range(c, c + d)))
+        both = spots & set(product(range(e, e + f), range(g, g + h)))
+        assert share_position(Rectangle(a, c, b, d), Rectangle(e, g, f, h)) == bool(both)
+
+
+def region_calls():
+    """The named region alone is checked, by 9; 1 to 4 come before 8; 5 looks at the whole cube."""
+    cell, buffer = Box(0, 0, 0, 1, 1, 1), bytes(480)
+    outside = by_hand(3, True, 2, 1, 2, 1)
+    assert edit(outside, 3, cell, [0], buffer)[0] == read(outside, 3, cell, [0], buffer)[0] == 9
+    assert edit(outside, 2, cell, [0], buffer)[0] == read(outside, 16, cell, [0], buffer)[0] == 8
+    bad = RegionTable(EXAMPLE._replace(start=16), (Slot(False, NO_RECTANGLE),) * 16)
+    assert edit(bad, 0, cell, [0], buffer)[0] == read(bad, 0, cell, [0], buffer)[0] == 4
+    table = by_hand(5, True, 1, 0, 2, 2)
+    assert edit(table, 5, cell, [0], bytes(479))[0] == read(table, 5, cell, [0], bytes(479))[0] == 5
+    assert edit(table, 5, Box(1, 1, 0, 1, 1, 2), [0, 200], buffer) == (7, 1, buffer)
+    after = edit(table, 5, Box(33, 1, 1, 1, 1, 1), [-2], buffer)[2]
+    assert [at for at in range(480) if after[at]] == [449] and after[449] == 254
+    assert read(table, 5, Box(33, 1, 0, 1, 1, 2), [9, 9], after) == (0, 0, [0, -2])
+
+
+def starred_weights():
+    """The starred weight cases, by number and by the packed bytes."""
+    assert weights.element_number(WEIGHTS, 1, 64, 0, 1) == 388
+    assert weights.element_number(WEIGHTS, 2, 5, 0, 0) == 133
+    assert weights.element_count(WEIGHTS) == 390 and weights.filled_bytes(WEIGHTS) == 512
+    raw = [0] * 390
+    raw[(1 * 65 + 64) * 2 + 1], raw[(2 * 65 + 5) * 2] = 7, -9
+    code, _, after = weights.pack(WEIGHTS, raw, bytes([238]) * 600)
+    assert code == 0 and (after[388], after[133]) == (7, 247)
+    assert after[390:512] == bytes(122) and after[512:] == bytes([238]) * 88
+    assert weights.unpack(WEIGHTS, [5] * 390, after) == (0, 0, raw)
+    seventeen = WeightLayout(17, 1, 1, 1, 1)
+    assert weights.pack(seventeen, [0] * 16 + [-2], bytes(128))[2][32:34] == bytes([0xFE, 0xFF])
+
+
+def weight_order():
+    """Element numbers count group, block, row, column, kernel, channel, the last one fastest."""
+    for q in (WEIGHTS, WeightLayout(33, 129, 2, 3, 0), WeightLayout(33, 65, 3, 2, 1)):
+        group = 32 if q.precision == 0 else 16
+        walk = (weights.element_number(q, k, c, r, s)
+                for g, b in product(range(0, q.kernels, group), range(0, q.channels, 64))
+                for r, s in product(range(q.height), range(q.width))
+                for k, c in product(range(g, min(g + group, q.kernels)),
+                                    range(b, min(b + 64, q.channels))))
+        assert list(walk) == list(range(weights.element_count(q)))
+
+
+def lent_weights():
+    """Code 5 looks at the filled surface, also when unpacking; 6 comes before 5; products do not wrap."""
+    raw = [0] * 390
+    assert weights.pack(WEIGHTS, raw, bytes(512))[0] == 0
+    for call in (weights.pack, weights.unpack):
+        assert call(WEIGHTS, raw, bytes(511))[0] == 5
+        assert call(WEIGHTS, [], b"")[0] == 6
+        assert call(WeightLayout(8192, 8192, 32, 32, 0), [], b"")[0] == 6
+    assert weights.pack(WEIGHTS, raw[:2] + [200] + raw[:386] + [-129], bytes(512))[:2] == (7, 2)
+
+
+def starred_conversions():
+    """The starred conversion cases; quotients below zero go down; 2 comes before 16."""
+    assert quantize(100, 128, 3, 2, 0) == (0, 0, -21)
+    assert quantize(255, 0, 1, 0, 0) == (0, 0, 127)
+    assert quantize(-1, 0, 1, 1, 0) == (0, 0, -1)
+    assert quantize(1, 0, 1, 32, 2) == (2, 0, 0)
+    assert quantize(1, 0, 1, 32, 1) == (16, 0, 0)
+
+
+def pixel_settings():
+    """An unknown precision is 20, after 19 and 1; a line is enough or short; positions do not wrap."""
+    p = pixels.PixelSetting(12, 10, 6, 4, 0, 5, 64, 96)
+    assert len(pixels.FORMATS) == 17
+    assert pixels.position(p, 2, 3) == (0, 0, 64 + 3 * 96 + 7 * 4)
+    assert pixels.position(p, 10, 0)[0] == pixels.position(p, 0, 6)[0] == 23
+    assert pixels.setting(p._replace(line=64))[0] == 0
+    assert pixels.setting(p._replace(line=32))[0] == 22
+    assert pixels.setting(p._replace(precision=3))[0] == 20
+    assert pixels.setting(p._replace(precision=3, height=0))[0] == 1
+    assert pixels.setting(p._replace(format=17, height=0))[0] == 19
+    far = p._replace(start=4294967264, line=4294967264)
+    assert pixels.position(far, 9, 5) == (0, 0, 6 * 4294967264 + 56)
+
+
 if __name__ == "__main__":
     starred()
     record_script()
@@ -73,3 +184,10 @@ if __name__ == "__main__":
     past_32_bits()
     lent_memory()
     boxes()
+    placings()
+    region_calls()
+    starred_weights()
+    weight_order()
+    lent_weights()
+    starred_conversions()
+    pixel_settings()

@@ -1,6 +1,8 @@
 -- What is packed is read back: each element is made of the bytes that packing left at its position. Assumes nothing.
---     read-back     unpacking what was packed
-use Prim.Native.Nat.{ℕ, _<_}
+--     stored-raw     an element of a packed tensor
+--     packed-fits    the elements of an accepted packing fit their bytes
+--     read-back      unpacking what was packed
+use Prim.Native.Nat.{ℕ, _+_, _/_, _^_, _≤_, _<_}
 use mathlib.Core.Path.{_≡_, refl, sym, ap, _∙_, subst}
 use mathlib.Core.List.{List}
 use lib.ListN.{length, getD}
@@ -12,24 +14,34 @@ use Rattle.elements.proofs.ByteLaws.{elementAt-byteOf}
 use Rattle.elements.proofs.TabulateLaws.{length-tabulate, getD-tabulate}
 use Rattle.elements.proofs.ValueLaws.{valueTaken-fits, valueChecks-taken}
 use Rattle.layout.specs.declared.CubeLayout.{CubeLayout}
-use Rattle.layout.specs.Geometry.{sizeOf, rawIndex, elementPosition}
+use Rattle.layout.specs.Geometry.{sizeOf, rawIndex, elementPosition, cubeExtent}
 use Rattle.layout.specs.Boxes.{wholeBox, boxCount, channelAt, rowAt, columnAt}
 use Rattle.layout.specs.Contents.{packed, storedElement, boxElements, unpacked}
 use Rattle.layout.specs.Calls.{packAnswer}
+use Rattle.layout.proofs.Taken.{Taken}
 use Rattle.layout.proofs.BoxLaws.{InCube, in-cube, at-in, boxIndex-at, whole-index, whole-taken}
 use Rattle.layout.proofs.Formulas.{packing-writes}
 use Rattle.layout.proofs.CallLaws.{Admitted, pack-admitted, pack-values}
+
+-- an element of a packed tensor, where it fits its bytes
+pub stored-raw : (q : CubeLayout) → Taken q → (raw : List ℤ) (before : List ℕ) → q .start + cubeExtent q ≤ length before → (c h w : ℕ) → InCube q c h w
+    → mag (getD raw (rawIndex q c h w) (pos 0)) < 256 ^ sizeOf q / 2 → storedElement q (packed q raw before) c h w ≡ getD raw (rawIndex q c h w) (pos 0)
+unfolding storedElement
+stored-raw q ok raw before room c h w i fits =
+    elementAt-byteOf (sizeOf q) (getD raw (rawIndex q c h w) (pos 0)) (packed q raw before) (elementPosition q c h w) fits (λ b hb. packing-writes q ok raw before room c h w b i hb)
+
+-- the elements of an accepted packing fit their bytes
+pub packed-fits : (q : CubeLayout) (raw : List ℤ) (len : ℕ) → ((i : ℕ) → mag (getD raw i (pos 0)) < 32768) → packAnswer q raw len ≡ Accepted
+    → (i : ℕ) → i < length raw → mag (getD raw i (pos 0)) < 256 ^ sizeOf q / 2
+packed-fits q raw len sixteen accepted i hi =
+    valueTaken-fits (q .precision) (getD raw i (pos 0)) (valueChecks-taken (q .precision) raw (pack-values q raw len accepted) i hi) (sixteen i)
 
 module _ (q : CubeLayout) (raw : List ℤ) (before : List ℕ) (sixteen : (i : ℕ) → mag (getD raw i (pos 0)) < 32768) (accepted : packAnswer q raw (length before) ≡ Accepted) where
   adm : Admitted q (wholeBox q) (length raw) (length before)
   adm = pack-admitted q raw (length before) accepted
 
   stored-back : (c h w : ℕ) → InCube q c h w → rawIndex q c h w < length raw → storedElement q (packed q raw before) c h w ≡ getD raw (rawIndex q c h w) (pos 0)
-  unfolding storedElement
-  stored-back c h w i hi =
-      elementAt-byteOf (sizeOf q) (getD raw (rawIndex q c h w) (pos 0)) (packed q raw before) (elementPosition q c h w)
-      (valueTaken-fits (q .precision) (getD raw (rawIndex q c h w) (pos 0)) (valueChecks-taken (q .precision) raw (pack-values q raw (length before) accepted) (rawIndex q c h w) hi) (sixteen (rawIndex q c h w)))
-      (λ b hb. packing-writes q (adm .layout) raw before (adm .room) c h w b i hb)
+  stored-back c h w i hi = stored-raw q (adm .layout) raw before (adm .room) c h w i (packed-fits q raw (length before) sixteen accepted (rawIndex q c h w) hi)
 
   pub read-back : unpacked q (packed q raw before) ≡ raw
   unfolding unpacked boxElements

@@ -1,2 +1,4 @@
 pub mod Cases
 pub mod Cubes
+pub mod Weights
+pub mod Conversions

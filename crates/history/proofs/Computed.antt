@@ -1,0 +1,42 @@
+-- The example's list, computed: its packing is accepted, and the answers, the elements read and the bytes changed are these. Assumes nothing.
+use Prim.Native.Nat.{ℕ}
+use mathlib.Core.Path.{_≡_, refl}
+use mathlib.Core.List.{List, [], _∷_, map}
+use lib.ListN.{length, getD}
+use lib.IntN.{ℤ, pos, negsuc}
+use Rattle.refusal.specs.declared.Answer.the-variants.{Accepted}
+use Rattle.refusal.specs.Codes.{answerCode, answerPlace}
+use Rattle.refusal.specs.Checks.{requireAt, inOrder, leaves}
+use Rattle.elements.specs.Bytes.{elementBytes, byteOf, wordAt, signed, elementAt}
+use Rattle.elements.specs.Lists.{remadeFrom, remade, tabulateFrom, tabulate}
+use Rattle.elements.specs.Values.{valueTaken, valueCheck, valueChecksFrom, valueChecks}
+use Rattle.layout.specs.Geometry.{elementCount, rawIndex, surfaces, elementPosition, cubeExtent}
+use Rattle.layout.specs.Boxes.{boxCount, spanInside, spanHas, boxHas, boxIndex, channelAt, rowAt, columnAt}
+use Rattle.layout.specs.Rules.{sizeTaken, sizesTaken, wholeAtoms, stridesTaken, layoutChecks, storageChecks, cubeChecks}
+use Rattle.layout.specs.Owners.{surfaceOf, rowOf, columnOf, byteInAtom, inAtom, atomOwner, owner}
+use Rattle.layout.specs.Contents.{packedByte, packed, editedByte, edited, storedElement, boxElements}
+use Rattle.layout.specs.Calls.{packAnswer, packBuffer}
+use Rattle.regions.specs.Slots.{slotOf, slotsOf, rectangleHas, taken, anyFrom, overlaps, rectangleInside}
+use Rattle.regions.specs.Rules.{slotAt, isFilled, rectangleOf, placeChecks, boxInRectangle, areaChecks, readChecks, editChecks}
+use Rattle.regions.specs.Calls.{placeAnswer, placeTable, editAnswer, editBuffer, readAnswer, readElements}
+use Rattle.history.specs.Program.{Shown, answerTo, elementsAfter, stateAfter, program}
+use Rattle.history.specs.Example.{layout, tensor, buffer, calls, shownOf}
+
+-- what the list shows at call n
+abbrev nth : ℕ → Shown
+nth n = getD shownOf n (record { answer = Accepted; elements = []; buffer = [] })
+
+-- the packing, the answers with the place of 7, two reads, and the buffer's bytes that differ before and after the edit
+pub record Computed : Type 0 where
+  pub packing : answerCode (packAnswer layout tensor (length buffer)) ≡ 0
+  pub answers : map (λ (s : Shown). answerCode (s .answer)) shownOf ≡ 0 ∷ 10 ∷ 8 ∷ 9 ∷ 8 ∷ 0 ∷ 0 ∷ 8 ∷ 9 ∷ 6 ∷ 7 ∷ 0 ∷ 0 ∷ 8 ∷ 9 ∷ 6 ∷ []
+  pub place : answerPlace (nth 10 .answer) ≡ 1
+  pub read-0 : nth 11 .elements ≡ pos 1 ∷ pos 2 ∷ pos 4 ∷ negsuc 7 ∷ []
+  pub read-1 : nth 12 .elements ≡ pos 3 ∷ negsuc 5 ∷ []
+  pub byte-before : getD (nth 5 .buffer) 33 0 ≡ 5
+  pub byte-after : getD (nth 6 .buffer) 33 0 ≡ 248
+
+pub computed : Computed
+unfolding requireAt inOrder leaves elementBytes byteOf wordAt signed elementAt remadeFrom remade tabulateFrom tabulate valueTaken valueCheck valueChecksFrom valueChecks elementCount rawIndex surfaces elementPosition cubeExtent boxCount spanInside spanHas boxHas boxIndex channelAt rowAt columnAt sizeTaken sizesTaken wholeAtoms stridesTaken layoutChecks storageChecks cubeChecks surfaceOf rowOf columnOf byteInAtom inAtom atomOwner owner packedByte packed editedByte edited storedElement boxElements packAnswer packBuffer slotOf slotsOf rectangleHas taken anyFrom overlaps rectangleInside slotAt isFilled rectangleOf placeChecks boxInRectangle areaChecks readChecks editChecks placeAnswer placeTable editAnswer editBuffer readAnswer readElements answerTo elementsAfter stateAfter program calls
+computed =
+    record { packing = refl; answers = refl; place = refl; read-0 = refl; read-1 = refl; byte-before = refl; byte-after = refl }

@@ -1,0 +1,234 @@
+-- At every moment of a list the placed regions are inside the cube and share no position. So they share no byte, and what an edit through one
+-- writes is no byte of another. Assumes nothing.
+--     Apart, apart-empty, apart-run     the placed regions of a table, at every moment
+--     no-shared-byte                    two placed regions share no byte
+--     edit-names                        an edit changes only bytes of the elements that it names
+--     read-kept, elements-kept          a read through another region answers and gives the same before and after
+use Prim.Native.Nat.{ℕ, _+_, _≤_, _<_}
+use native.Mathlib.Omega.{arith}
+use native.Mathlib.Decide.{ℕ-discrete, decLt}
+use mathlib.Core.Path.{_≡_, refl, sym, ap, _∙_, subst}
+use mathlib.Core.Logic.{_≢_, _⊎_, inl, inr, ⊎-elim}
+use mathlib.Core.Bool.{Bool, true, false, _&&_}
+use mathlib.Core.List.{List, [], _∷_}
+use lib.ListN.{length, getD, set, replicate, getD-replicate, length-replicate, List·getD-eq-default}
+use lib.Seq.{getD-set-same, getD-set-other, set-out}
+use lib.IntN.{ℤ, pos}
+use Rattle.refusal.specs.declared.Answer.{Answer}
+use Rattle.refusal.specs.declared.Answer.the-variants.{Accepted, Refused}
+use Rattle.refusal.specs.Checks.{inOrder, leaves}
+use Rattle.elements.proofs.ByteLaws.{elementAt-ext}
+use Rattle.layout.specs.declared.CubeLayout.{CubeLayout}
+use Rattle.layout.specs.declared.ElementBox.{ElementBox}
+use Rattle.layout.specs.Geometry.{sizeOf, elementPosition}
+use Rattle.layout.specs.Boxes.{spanInside, boxCount, channelAt, rowAt, columnAt}
+use Rattle.layout.specs.Contents.{edited, storedElement, boxElements}
+use Rattle.layout.proofs.Taken.{Taken, and-left, and-right}
+use Rattle.layout.proofs.BoxLaws.{Span, BoxTaken, InBox, InCube, in-cube, at-in}
+use Rattle.layout.proofs.ContentLaws.{edited-kept, edited-length}
+use Rattle.layout.proofs.Places.{element-own}
+use Rattle.regions.specs.declared.RegionTable.{RegionTable}
+use Rattle.regions.specs.Slots.{Rectangle, Slot, empty, filled, slotOf, slotsOf, emptySlots, rectangleInside}
+use Rattle.regions.specs.Rules.{slotAt, isFilled, rectangleOf, rectangleAt, boxInRectangle, cubeBox, placeChecks, editChecks, readChecks}
+use Rattle.regions.specs.Calls.{emptyTable, placeAnswer, placeTable, editAnswer, editBuffer, readAnswer, readElements}
+use Rattle.regions.proofs.RuleLaws.{Placing, place-accepted, Area, area-inside, edit-area, read-area, read-admitted, rectangle-columns, rectangle-rows, span-inside}
+use Rattle.regions.proofs.OverlapLaws.{InRectangle, overlaps-apart}
+use Rattle.history.specs.Program.{Call, place, edit, read, State, answerTo, elementsAfter, stateAfter, runTo}
+use Rattle.history.proofs.TensorLaws.{tabulate-ext}
+use Rattle.history.proofs.Simulation.{placed-layout, placed-slots}
+
+-- the placed rectangles are in the cube, and no two have a position in common
+pub record Apart (q : CubeLayout) (slots : List Slot) : Type 0 where
+  pub inside : (n : ℕ) (g : Rectangle) → slotAt slots n ≡ filled g → rectangleInside q g ≡ true
+  pub apart : (n m : ℕ) → n ≢ m → (f g : Rectangle) → slotAt slots n ≡ filled f → slotAt slots m ≡ filled g → (w h : ℕ) → InRectangle f w h → InRectangle g w h → ⊥
+
+-- ---- the empty table
+slot-empty : (n : ℕ) → slotAt emptySlots n ≡ empty
+unfolding slotAt emptySlots
+slot-empty n =
+    elim (decLt n 16) [ yes h ↦ getD-replicate 16 n empty empty h | no f ↦ List·getD-eq-default (replicate 16 empty) empty (subst (λ (k : ℕ). k ≤ n) (sym (length-replicate 16 empty)) (omega arith)) ]
+
+pub apart-empty : (q p : CubeLayout) → Apart q (slotsOf (emptyTable p))
+unfolding slotsOf slotOf emptySlots
+apart-empty q p =
+    record {
+      inside = λ n g e. absurd (let z : _≡_ {A = ℕ} 0 1 = cc (slot-empty n) in let f : ⊥ = omega arith in f);
+      apart = λ n m d f g e i w h a b. let z : _≡_ {A = ℕ} 0 1 = cc (slot-empty n) in omega arith
+    }
+
+-- ---- one placing: a filled slot is the new one, or was filled before
+set-cases : (slots : List Slot) (n k : ℕ) (g f : Rectangle) → slotAt (set slots n (filled g)) k ≡ filled f → ((k ≡ n) × (f ≡ g)) ⊎ (slotAt slots k ≡ filled f)
+unfolding slotAt
+set-cases slots n k g f e =
+    elim (ℕ-discrete k n) [ yes s ↦ at-it s | no d ↦ inr (sym (getD-set-other slots n k (filled g) empty d) ∙ e) ]
+  where
+    at-it : k ≡ n → ((k ≡ n) × (f ≡ g)) ⊎ (getD slots k empty ≡ filled f)
+    at-it s =
+        elim (decLt n (length slots)) [ yes h ↦ inl (s, (let i : filled g ≡ filled f = sym (getD-set-same slots n (filled g) empty h) ∙ sym (ap (λ (j : ℕ). getD (set slots n (filled g)) j empty) s) ∙ e in cc)) | no o ↦ inr (sym (ap (λ (l : List Slot). getD l k empty) (set-out slots n (filled g) (omega arith))) ∙ e) ]
+
+apart-placed : (q : CubeLayout) (slots : List Slot) (n : ℕ) (g : Rectangle) → Placing q slots n g → Apart q slots → Apart q (set slots n (filled g))
+apart-placed q slots n g p a =
+    record {
+      inside = λ k f e. ⊎-elim (λ s. subst (λ (r : Rectangle). rectangleInside q r ≡ true) (sym (s .1)) (p .inside)) (λ i. a .inside k f i) (set-cases slots n k g f e);
+      apart = λ k m d f r ef er w h hf hr. both k m d f r w h hf hr (set-cases slots n k g f ef) (set-cases slots n m g r er)
+    }
+  where
+    both : (k m : ℕ) → k ≢ m → (f r : Rectangle) (w h : ℕ) → InRectangle f w h → InRectangle r w h → ((k ≡ n) × (f ≡ g)) ⊎ (slotAt slots k ≡ filled f) → ((m ≡ n) × (r ≡ g)) ⊎ (slotAt slots m ≡ filled r) → ⊥
+    both k m d f r w h hf hr (inl s) (inl s′) = d (s .0 ∙ sym (s′ .0))
+    both k m d f r w h hf hr (inl s) (inr o) = overlaps-apart slots g (p .apart) m r w h o hr (subst (λ (x : Rectangle). InRectangle x w h) (s .1) hf)
+    both k m d f r w h hf hr (inr o) (inl s) = overlaps-apart slots g (p .apart) k f w h o hf (subst (λ (x : Rectangle). InRectangle x w h) (s .1) hr)
+    both k m d f r w h hf hr (inr o) (inr o′) = a .apart k m d f r o o′ w h hf hr
+
+-- ---- every moment
+module _ (t : RegionTable) (n : ℕ) (g : Rectangle) where
+  place-cases : (v : Answer) → inOrder (placeChecks (t .layout) (slotsOf t) n g) ≡ v → Apart (t .layout) (slotsOf t) → Apart (t .layout) (leaves v (set (slotsOf t) n (filled g)) (slotsOf t))
+  unfolding leaves
+  place-cases Accepted e a = apart-placed (t .layout) (slotsOf t) n g (place-accepted (t .layout) (slotsOf t) n g e) a
+  place-cases (Refused r i) e a = a
+
+  apart-place : Apart (t .layout) (slotsOf t) → Apart (placeTable t n g .layout) (slotsOf (placeTable t n g))
+  unfolding placeAnswer
+  apart-place a =
+      subst (λ (p : CubeLayout). Apart p (slotsOf (placeTable t n g))) (sym (placed-layout t n g))
+      (subst (λ (l : List Slot). Apart (t .layout) l) (sym (placed-slots t n g)) (place-cases (placeAnswer t n g) refl a))
+
+apart-after : (s : State) (c : Call) → Apart (s .table .layout) (slotsOf (s .table)) → Apart (stateAfter s c .table .layout) (slotsOf (stateAfter s c .table))
+unfolding stateAfter
+apart-after s (place n g) a = apart-place (s .table) n g a
+apart-after s (edit n b xs) a = a
+apart-after s (read n b xs) a = a
+
+pub apart-run : (s : State) (calls : List Call) → Apart (s .table .layout) (slotsOf (s .table)) → Apart (runTo s calls .table .layout) (slotsOf (runTo s calls .table))
+unfolding runTo
+apart-run s [] a = a
+apart-run s (c ∷ calls) a = apart-run (stateAfter s c) calls (apart-after s c a)
+
+-- the layout stays
+layout-after : (s : State) (c : Call) → stateAfter s c .table .layout ≡ s .table .layout
+unfolding stateAfter
+layout-after s (place n g) = placed-layout (s .table) n g
+layout-after s (edit n b xs) = refl
+layout-after s (read n b xs) = refl
+
+pub layout-run : (s : State) (calls : List Call) → runTo s calls .table .layout ≡ s .table .layout
+unfolding runTo
+layout-run s [] = refl
+layout-run s (c ∷ calls) = layout-run (stateAfter s c) calls ∙ layout-after s c
+
+-- ---- no shared byte
+module _ (q : CubeLayout) (ok : Taken q) (slots : List Slot) (a : Apart q slots) where
+  -- an element of a placed region is in the cube
+  region-cube : (n : ℕ) (g : Rectangle) → slotAt slots n ≡ filled g → (c h w : ℕ) → c < q .channels → InRectangle g w h → InCube q c h w
+  region-cube n g e c h w hc i =
+      let cs = rectangle-columns q g (a .inside n g e) in
+      let rs = rectangle-rows q g (a .inside n g e) in
+      record { channel-lt = hc; row-lt = omega (arith, i .row-lt, rs .fit); column-lt = omega (arith, i .column-lt, cs .fit) }
+
+  pub no-shared-byte : (n m : ℕ) → n ≢ m → (f g : Rectangle) → slotAt slots n ≡ filled f → slotAt slots m ≡ filled g
+      → (c h w b c′ h′ w′ b′ : ℕ) → c < q .channels → InRectangle f w h → b < sizeOf q → c′ < q .channels → InRectangle g w′ h′ → b′ < sizeOf q
+      → elementPosition q c h w + b ≡ elementPosition q c′ h′ w′ + b′ → ⊥
+  no-shared-byte n m d f g ef eg c h w b c′ h′ w′ b′ hc i hb hc′ i′ hb′ e =
+      let same = element-own q ok c h w b c′ h′ w′ b′ (region-cube n f ef c h w hc i) (region-cube m g eg c′ h′ w′ hc′ i′) hb hb′ e in
+      a .apart n m d f g ef eg w h i (subst (λ (x : ℕ). InRectangle g x h) (sym (same .2)) (subst (λ (x : ℕ). InRectangle g w′ x) (sym (same .1)) i′))
+
+-- ---- what an edit changes
+module _ (t : RegionTable) (n : ℕ) (b : ElementBox) (xs : List ℤ) (buf : List ℕ) where
+  edit-cases : (v : Answer) → inOrder (editChecks (t .layout) (slotsOf t) n b xs (length buf)) ≡ v → (p : ℕ)
+      → ((c h w k : ℕ) → InBox (cubeBox (rectangleAt (slotsOf t) n) b) c h w → k < sizeOf (t .layout) → p ≡ elementPosition (t .layout) c h w + k → ⊥)
+      → getD (leaves v (edited (t .layout) (cubeBox (rectangleAt (slotsOf t) n) b) xs buf) buf) p 0 ≡ getD buf p 0
+  unfolding leaves
+  edit-cases Accepted e p f =
+      let ok = area-inside (t .layout) (slotsOf t) n b (edit-area (t .layout) (slotsOf t) n b xs (length buf) e) in
+      edited-kept (t .layout) (cubeBox (rectangleAt (slotsOf t) n) b) xs buf (ok .layout) p f
+  edit-cases (Refused r i) e p f = refl
+
+  pub edit-names : (p : ℕ) → ((c h w k : ℕ) → InBox (cubeBox (rectangleAt (slotsOf t) n) b) c h w → k < sizeOf (t .layout) → p ≡ elementPosition (t .layout) c h w + k → ⊥)
+      → getD (editBuffer t n b xs buf) p 0 ≡ getD buf p 0
+  unfolding editBuffer editAnswer
+  edit-names p f = edit-cases (editAnswer t n b xs (length buf)) refl p f
+
+  edit-long : (v : Answer) → length (leaves v (edited (t .layout) (cubeBox (rectangleAt (slotsOf t) n) b) xs buf) buf) ≡ length buf
+  unfolding leaves
+  edit-long Accepted = edited-length (t .layout) (cubeBox (rectangleAt (slotsOf t) n) b) xs buf
+  edit-long (Refused r i) = refl
+
+  pub edit-length : length (editBuffer t n b xs buf) ≡ length buf
+  unfolding editBuffer
+  edit-length = edit-long (editAnswer t n b xs (length buf))
+
+-- ---- a read through another region
+module _ (q : CubeLayout) (g : Rectangle) (b : ElementBox) (e : boxInRectangle q g b ≡ true) where
+  box-rows : Span (b .row) (b .rows) (g .rows)
+  unfolding boxInRectangle
+  box-rows =
+      let c = spanInside (b .channel) (b .channels) (q .channels) in
+      let r = spanInside (b .row) (b .rows) (g .rows) in
+      span-inside (b .row) (b .rows) (g .rows) (and-right c r (and-left (c && r) (spanInside (b .column) (b .columns) (g .columns)) e))
+
+  box-columns : Span (b .column) (b .columns) (g .columns)
+  unfolding boxInRectangle
+  box-columns =
+      span-inside (b .column) (b .columns) (g .columns)
+      (and-right (spanInside (b .channel) (b .channels) (q .channels) && spanInside (b .row) (b .rows) (g .rows)) (spanInside (b .column) (b .columns) (g .columns)) e)
+
+in-rectangle : (q : CubeLayout) (g : Rectangle) (b : ElementBox) → boxInRectangle q g b ≡ true → (c h w : ℕ) → InBox (cubeBox g b) c h w → InRectangle g w h
+in-rectangle q g b e c h w i =
+    let rs = box-rows q g b e in
+    let cs = box-columns q g b e in
+    record {
+      column-ge = omega (arith, i .column-ge);
+      column-lt = omega (arith, i .column-lt, cs .fit);
+      row-ge = omega (arith, i .row-ge);
+      row-lt = omega (arith, i .row-lt, rs .fit)
+    }
+
+is-filled : (s : Slot) → isFilled s ≡ true → s ≡ filled (rectangleOf s)
+unfolding isFilled rectangleOf
+is-filled empty e = let z : _≡_ {A = ℕ} 0 1 = cc in absurd (let f : ⊥ = omega arith in f)
+is-filled (filled g) e = refl
+
+module _ (t : RegionTable) (a : Apart (t .layout) (slotsOf t)) (n m : ℕ) (d : n ≢ m) (b : ElementBox) (xs : List ℤ) (b′ : ElementBox) (ys : List ℤ) (buf : List ℕ) where
+  pub read-kept : readAnswer t m b′ (length ys) (length (editBuffer t n b xs buf)) ≡ readAnswer t m b′ (length ys) (length buf)
+  read-kept = ap (λ (k : ℕ). readAnswer t m b′ (length ys) k) (edit-length t n b xs buf)
+
+  -- an element of the read's box keeps its bytes
+  bytes-kept : inOrder (readChecks (t .layout) (slotsOf t) m b′ (length ys) (length buf)) ≡ Accepted → (v : Answer) → editAnswer t n b xs (length buf) ≡ v
+      → (c h w k : ℕ) → InBox (cubeBox (rectangleAt (slotsOf t) m) b′) c h w → k < sizeOf (t .layout)
+      → getD (leaves v (edited (t .layout) (cubeBox (rectangleAt (slotsOf t) n) b) xs buf) buf) (elementPosition (t .layout) c h w + k) 0 ≡ getD buf (elementPosition (t .layout) c h w + k) 0
+  unfolding leaves editAnswer
+  bytes-kept r Accepted e c h w k i hk =
+      let q = t .layout in
+      let slots = slotsOf t in
+      let mine = area-inside q slots m b′ (read-area q slots m b′ (length ys) (length buf) r) in
+      let theirs = area-inside q slots n b (edit-area q slots n b xs (length buf) e) in
+      edited-kept q (cubeBox (rectangleAt slots n) b) xs buf (mine .layout) (elementPosition q c h w + k)
+      (λ c′ h′ w′ k′ i′ hk′ s.
+      no-shared-byte q (mine .layout) slots a m n (λ z. d (sym z)) (rectangleAt slots m) (rectangleAt slots n) (is-filled (slotAt slots m) (mine .placed)) (is-filled (slotAt slots n) (theirs .placed)) c h w k c′ h′ w′ k′
+      (in-cube q (cubeBox (rectangleAt slots m) b′) c h w (mine .area) i .channel-lt)
+      (in-rectangle q (rectangleAt slots m) b′ (mine .within) c h w i)
+      hk
+      (in-cube q (cubeBox (rectangleAt slots n) b) c′ h′ w′ (theirs .area) i′ .channel-lt)
+      (in-rectangle q (rectangleAt slots n) b (theirs .within) c′ h′ w′ i′)
+      hk′
+      s)
+  bytes-kept r (Refused x j) e c h w k i hk = refl
+
+  elements-cases : (v : Answer) → inOrder (readChecks (t .layout) (slotsOf t) m b′ (length ys) (length buf)) ≡ v
+      → leaves v (boxElements (t .layout) (cubeBox (rectangleAt (slotsOf t) m) b′) (editBuffer t n b xs buf)) ys ≡ leaves v (boxElements (t .layout) (cubeBox (rectangleAt (slotsOf t) m) b′) buf) ys
+  unfolding leaves boxElements storedElement editBuffer
+  elements-cases Accepted r =
+      let q = t .layout in
+      let box = cubeBox (rectangleAt (slotsOf t) m) b′ in
+      let mine = area-inside q (slotsOf t) m b′ (read-area q (slotsOf t) m b′ (length ys) (length buf) r) in
+      tabulate-ext (λ (i : ℕ). storedElement q (editBuffer t n b xs buf) (channelAt box i) (rowAt box i) (columnAt box i)) (λ (i : ℕ). storedElement q buf (channelAt box i) (rowAt box i) (columnAt box i)) (boxCount box)
+      (λ i hi.
+      elementAt-ext (sizeOf q) (editBuffer t n b xs buf) buf (elementPosition q (channelAt box i) (rowAt box i) (columnAt box i)) (elementPosition q (channelAt box i) (rowAt box i) (columnAt box i))
+      (λ k hk. bytes-kept r (editAnswer t n b xs (length buf)) refl (channelAt box i) (rowAt box i) (columnAt box i) k (at-in box i hi (mine .area .rows .some) (mine .area .columns .some)) hk))
+  elements-cases (Refused x j) r = refl
+
+  pub elements-kept : readElements t m b′ (editBuffer t n b xs buf) ys ≡ readElements t m b′ buf ys
+  unfolding readElements readAnswer
+  elements-kept =
+      let v = readAnswer t m b′ (length ys) (length buf) in
+      ap (λ (w : Answer). leaves w (boxElements (t .layout) (cubeBox (rectangleAt (slotsOf t) m) b′) (editBuffer t n b xs buf)) ys) read-kept
+      ∙ elements-cases v refl

@@ -1,0 +1,60 @@
+-- One list of calls, small enough to follow by hand: a cube of 3 columns, 1 row and 2 channels of int8 in 96 bytes, two regions side by side, and a
+-- refusal of each kind that can come after an accepted packing. Assumes nothing.
+use Prim.Native.Nat.{ℕ}
+use mathlib.Core.List.{List, [], _∷_, map}
+use lib.ListN.{replicate}
+use lib.IntN.{ℤ, pos, negsuc}
+use Rattle.refusal.specs.Codes.{answerCode}
+use Rattle.layout.specs.declared.CubeLayout.{CubeLayout}
+use Rattle.layout.specs.declared.ElementBox.{ElementBox}
+use Rattle.regions.specs.Slots.{rectangle}
+use Rattle.history.specs.Program.{Call, place, edit, read, Shown, program, started}
+
+abbrev pub layout : CubeLayout
+layout = record { width = 3; height = 1; channels = 2; precision = 0; line = 96; surface = 96; start = 0 }
+
+-- channel 0 is 1, 2, 3 and channel 1 is 4, 5, -6
+abbrev pub tensor : List ℤ
+tensor = pos 1 ∷ pos 2 ∷ pos 3 ∷ pos 4 ∷ pos 5 ∷ negsuc 5 ∷ []
+
+abbrev pub buffer : List ℕ
+buffer = replicate 96 7
+
+-- first channel, row and column, and how many of each
+abbrev pub box : ℕ → ℕ → ℕ → ℕ → ℕ → ℕ → ElementBox
+box channel row column channels rows columns =
+    record { channel = channel; row = row; column = column; channels = channels; rows = rows; columns = columns }
+
+abbrev pub zeros : ℕ → List ℤ
+zeros n = replicate n (pos 0)
+
+unfoldable pub calls : List Call
+calls =
+    -- region 0 is columns 0 and 1
+    place 0 (rectangle 0 0 2 1)
+    -- refused: it overlaps, its slot is filled, it leaves the cube, there is no slot 16
+    ∷ place 1 (rectangle 1 0 2 1)
+    ∷ place 0 (rectangle 2 0 1 1)
+    ∷ place 1 (rectangle 2 0 2 1)
+    ∷ place 16 (rectangle 2 0 1 1)
+    -- region 1 is column 2
+    ∷ place 1 (rectangle 2 0 1 1)
+    -- through region 0: channel 1, column 1 becomes -8
+    ∷ edit 0 (box 1 0 1 1 1 1) (negsuc 7 ∷ [])
+    -- refused: no such region, out of the region, one element too few, 200 is no int8
+    ∷ edit 2 (box 0 0 0 1 1 1) (pos 9 ∷ [])
+    ∷ edit 1 (box 0 0 1 1 1 1) (pos 9 ∷ [])
+    ∷ edit 0 (box 0 0 0 1 1 2) (pos 9 ∷ [])
+    ∷ edit 0 (box 0 0 0 1 1 2) (pos 9 ∷ pos 200 ∷ [])
+    -- all of region 0, and all of region 1
+    ∷ read 0 (box 0 0 0 2 1 2) (zeros 4)
+    ∷ read 1 (box 0 0 0 2 1 1) (zeros 2)
+    -- refused: no such region, out of the region, one element too many
+    ∷ read 3 (box 0 0 0 1 1 1) (zeros 1)
+    ∷ read 1 (box 0 0 0 2 2 1) (zeros 4)
+    ∷ read 1 (box 0 0 0 1 1 1) (zeros 2)
+    ∷ []
+
+-- what the program shows of them
+abbrev pub shownOf : List Shown
+shownOf = program (started layout tensor buffer) calls

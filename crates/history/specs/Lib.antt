@@ -1,0 +1,3 @@
+pub mod Program
+pub mod Model
+pub mod Example

@@ -1,0 +1,105 @@
+-- What an accepted setting tells: each rule of the scope paper holds ("Pixels"), and nothing else is asked. Assumes nothing.
+--     Taken                     the rules
+--     taken, taken-accepted     an accepted setting meets them; one that meets them is accepted
+use Prim.Native.Nat.{ℕ, _+_, _*_, _%_, _≤_}
+use mathlib.Core.Path.{_≡_, refl, sym}
+use mathlib.Core.Bool.{Bool, true, false, _&&_}
+use mathlib.Core.List.{[]}
+use lib.Dec.{leb, eqb}
+use borrow.Author.Tests.{leb-true, eqb-true, le-leb, eq-eqb}
+use Rattle.refusal.specs.declared.Answer.the-variants.{Accepted}
+use Rattle.refusal.specs.declared.Refusal.the-variants.{Size, PixelFormat as FormatCode, PixelKind, XOffset, PixelStrides}
+use Rattle.refusal.proofs.CheckLaws.{inOrder-held, inOrder-rest}
+use Rattle.pixels.specs.declared.PixelSetting.{PixelSetting}
+use Rattle.pixels.specs.Formats.{formatOf}
+use Rattle.pixels.specs.Settings.{pixelBytes, sizeTaken, kindTaken, stridesTaken, settingChecks, settingAnswer}
+use Rattle.pixels.proofs.SettingLaws.{check-taken}
+
+-- 1 to 8192
+pub record SizeTaken (n : ℕ) : Type 0 where
+  pub pos : 1 ≤ n
+  pub le : n ≤ 8192
+
+-- a known code, sizes in range, the format's channels, precision and X offsets, and a line that holds its pixels
+pub record Taken (q : PixelSetting) : Type 0 where
+  pub known : q .format ≤ 16
+  pub wide : SizeTaken (q .width)
+  pub high : SizeTaken (q .height)
+  pub channels-is : q .channels ≡ formatOf (q .format) .channels
+  pub precision-is : q .precision ≡ formatOf (q .format) .precision
+  pub offset-le : q .offset ≤ formatOf (q .format) .offsets
+  pub start-whole : q .start % 32 ≡ 0
+  pub line-whole : q .line % 32 ≡ 0
+  pub room : (q .offset + q .width) * pixelBytes q ≤ q .line
+
+and-left : (a b : Bool) → a && b ≡ true → a ≡ true
+and-left true b e = refl
+and-left false b e = e
+
+and-right : (a b : Bool) → a && b ≡ true → b ≡ true
+and-right true b e = e
+and-right false b e = cc
+
+size-taken : (n : ℕ) → sizeTaken n ≡ true → SizeTaken n
+unfolding sizeTaken
+size-taken n e = record { pos = leb-true 1 n (and-left (leb 1 n) (leb n 8192) e); le = leb-true n 8192 (and-right (leb 1 n) (leb n 8192) e) }
+
+module _ (q : PixelSetting) where
+  abbrev sizes-test : Bool
+  sizes-test = sizeTaken (q .width) && sizeTaken (q .height)
+
+  abbrev channels-test : Bool
+  channels-test = eqb (q .channels) (formatOf (q .format) .channels)
+
+  abbrev precision-test : Bool
+  precision-test = eqb (q .precision) (formatOf (q .format) .precision)
+
+  abbrev whole-test : Bool
+  whole-test = eqb (q .start % 32) 0 && eqb (q .line % 32) 0
+
+  abbrev room-test : Bool
+  room-test = leb ((q .offset + q .width) * pixelBytes q) (q .line)
+
+  pub taken : settingAnswer q ≡ Accepted → Taken q
+  unfolding settingAnswer settingChecks kindTaken stridesTaken
+  taken e =
+      let sizes = inOrder-rest 0 FormatCode (leb (q .format) 16) _ e in
+      let kind = inOrder-rest 0 Size sizes-test _ sizes in
+      let offset = inOrder-rest 0 PixelKind (kindTaken q) _ kind in
+      let strides = inOrder-rest 0 XOffset (leb (q .offset) (formatOf (q .format) .offsets)) _ offset in
+      let sizes-hold = inOrder-held 0 Size sizes-test _ sizes in
+      let kind-holds = inOrder-held 0 PixelKind (kindTaken q) _ kind in
+      let strides-hold = inOrder-held 0 PixelStrides (stridesTaken q) [] strides in
+      let whole = and-left whole-test room-test strides-hold in
+      record {
+        known = leb-true (q .format) 16 (inOrder-held 0 FormatCode (leb (q .format) 16) _ e);
+        wide = size-taken (q .width) (and-left (sizeTaken (q .width)) (sizeTaken (q .height)) sizes-hold);
+        high = size-taken (q .height) (and-right (sizeTaken (q .width)) (sizeTaken (q .height)) sizes-hold);
+        channels-is = eqb-true (q .channels) (formatOf (q .format) .channels) (and-left channels-test precision-test kind-holds);
+        precision-is = eqb-true (q .precision) (formatOf (q .format) .precision) (and-right channels-test precision-test kind-holds);
+        offset-le = leb-true (q .offset) (formatOf (q .format) .offsets) (inOrder-held 0 XOffset (leb (q .offset) (formatOf (q .format) .offsets)) _ offset);
+        start-whole = eqb-true (q .start % 32) 0 (and-left (eqb (q .start % 32) 0) (eqb (q .line % 32) 0) whole);
+        line-whole = eqb-true (q .line % 32) 0 (and-right (eqb (q .start % 32) 0) (eqb (q .line % 32) 0) whole);
+        room = leb-true ((q .offset + q .width) * pixelBytes q) (q .line) (and-right whole-test room-test strides-hold);
+      }
+
+-- ---- and back
+
+size-true : (n : ℕ) → SizeTaken n → sizeTaken n ≡ true
+unfolding sizeTaken
+size-true n t = rw (le-leb 1 n (t .pos), le-leb n 8192 (t .le))
+
+module _ (q : PixelSetting) (t : Taken q) where
+  kind-true : kindTaken q ≡ true
+  unfolding kindTaken
+  kind-true =
+      rw (eq-eqb (q .channels) (formatOf (q .format) .channels) (t .channels-is), eq-eqb (q .precision) (formatOf (q .format) .precision) (t .precision-is))
+
+  strides-true : stridesTaken q ≡ true
+  unfolding stridesTaken
+  strides-true =
+      rw (eq-eqb (q .start % 32) 0 (t .start-whole), eq-eqb (q .line % 32) 0 (t .line-whole), le-leb ((q .offset + q .width) * pixelBytes q) (q .line) (t .room))
+
+  pub taken-accepted : settingAnswer q ≡ Accepted
+  taken-accepted =
+      sym (check-taken q (t .known) (size-true (q .width) (t .wide)) (size-true (q .height) (t .high)) kind-true (t .offset-le) strides-true)

@@ -1,0 +1,42 @@
+// The rules behind the checks, one function each.
+ghost use mathlib.Core.Path.{_≡_};
+ghost use Rattle.pixels.specs.Formats.{formatOf};
+ghost use Rattle.pixels.specs.Settings.{pixelBytes, sizeTaken, kindTaken, stridesTaken};
+use crate::PixelFormat;
+use crate::PixelSetting;
+
+// 1 to 8192.
+pub(crate) fn size_taken(n: u32) -> bool
+    ensures { λ r. ⌜ r ≡ sizeTaken n ⌝ }
+{
+    if n < 1 {
+        return false;
+    }
+    n <= 8192
+}
+
+// Channels and precision are the format's.
+pub(crate) fn kind_taken(image: PixelSetting, format: PixelFormat) -> bool
+    requires { ⌜ format ≡ formatOf (image .format) ⌝ }
+    ensures { λ r. ⌜ r ≡ kindTaken image ⌝ }
+{
+    if image.channels != format.channels {
+        return false;
+    }
+    image.precision == format.precision
+}
+
+// Start and line are multiples of 32, and a line holds its pixels.
+pub(crate) fn strides_taken(image: PixelSetting, bytes: u32) -> bool
+    requires { ⌜ bytes ≡ pixelBytes image ⌝ }
+    ensures { λ r. ⌜ r ≡ stridesTaken image ⌝ }
+{
+    if image.start % 32 != 0 {
+        return false;
+    }
+    if image.line % 32 != 0 {
+        return false;
+    }
+    let pixels = image.offset as u64 + image.width as u64;
+    pixels * bytes as u64 <= image.line as u64
+}

@@ -1,0 +1,85 @@
+-- The limits of a precision, the range of a converted value, and the checks as the code goes through them. Assumes nothing.
+--     lowest-zero .. highest-other          the limits, by the precision
+--     saturated-value, quantized-fits       the converted value from the scaled one; it fits 16 bits
+--     answer-precision .. answer-value      the checks, one after another
+use Prim.Native.Nat.{ℕ, zero, suc, _^_, _≤_, _<_}
+use mathlib.Core.Path.{_≡_, refl, _∙_}
+use lib.IntN.{ℤ, pos, negsuc, _-ℤ_, _*ℤ_}
+use lib.Signed.{shrZ}
+use borrow.Author.Tests.{lt-ltb, le-ltb, le-leb, lt-leb}
+use mir.Syntax.{w16}
+use mir.Val.{SFits}
+use mir.Facts.{sfits-lit}
+use Rattle.refusal.specs.declared.Answer.the-variants.{Accepted, Refused}
+use Rattle.refusal.specs.declared.Refusal.{Refusal}
+use Rattle.refusal.specs.declared.Refusal.the-variants.{Precision, Shift}
+use Rattle.refusal.specs.Checks.{inOrder}
+use Rattle.refusal.proofs.CheckLaws.{inOrder-nil, inOrder-next, inOrder-stop}
+use Rattle.integers.specs.Saturate.{saturate}
+use Rattle.integers.proofs.SaturateLaws.{fits-saturate}
+use Rattle.quantize.specs.declared.Quantized.the-variants.{Value, Denied}
+use Rattle.quantize.specs.Quantize.{lowest, highest, quantizeChecks, quantized, valueOr, quantizeAnswer}
+
+-- ---- the limits
+
+pub lowest-zero : {p : ℕ} → p ≡ 0 → negsuc 127 ≡ lowest p
+unfolding lowest
+lowest-zero e = rw e
+
+pub lowest-other : (p : ℕ) → (p ≡ 0 → ⊥) → negsuc 32767 ≡ lowest p
+unfolding lowest
+lowest-other zero f = absurd (f refl)
+lowest-other (suc p) f = refl
+
+pub highest-zero : {p : ℕ} → p ≡ 0 → pos 127 ≡ highest p
+unfolding highest
+highest-zero e = rw e
+
+pub highest-other : (p : ℕ) → (p ≡ 0 → ⊥) → pos 32767 ≡ highest p
+unfolding highest
+highest-other zero f = absurd (f refl)
+highest-other (suc p) f = refl
+
+lowest-fits : (p : ℕ) → SFits w16 (lowest p)
+unfolding lowest
+lowest-fits zero = sfits-lit tt
+lowest-fits (suc p) = sfits-lit tt
+
+highest-fits : (p : ℕ) → SFits w16 (highest p)
+unfolding highest
+highest-fits zero = sfits-lit tt
+highest-fits (suc p) = sfits-lit tt
+
+-- ---- the value, and the checks
+
+-- the value from the scaled one
+pub saturated-value : {low high y : ℤ} (d offset scale : ℤ) (shift precision : ℕ) → low ≡ lowest precision → high ≡ highest precision
+    → y ≡ shrZ ((d -ℤ offset) *ℤ scale) (2 ^ shift) → saturate low high y ≡ quantized d offset scale shift precision
+unfolding quantized
+saturated-value d offset scale shift precision e f g = rw (e, f, g)
+
+module _ (d offset scale : ℤ) (shift precision : ℕ) where
+  pub quantized-fits : SFits w16 (quantized d offset scale shift precision)
+  unfolding quantized
+  quantized-fits = fits-saturate (shrZ ((d -ℤ offset) *ℤ scale) (2 ^ shift)) (lowest-fits precision) (highest-fits precision)
+
+  refused : {r : Refusal} → inOrder (quantizeChecks precision shift) ≡ Refused r 0 → Denied r 0 ≡ quantizeAnswer d offset scale shift precision
+  unfolding quantizeAnswer valueOr
+  refused e = rw e
+
+  accepted : inOrder (quantizeChecks precision shift) ≡ Accepted → Value (quantized d offset scale shift precision) ≡ quantizeAnswer d offset scale shift precision
+  unfolding quantizeAnswer valueOr
+  accepted e = rw e
+
+  pub answer-precision : 2 ≤ precision → Denied Precision 0 ≡ quantizeAnswer d offset scale shift precision
+  unfolding quantizeChecks
+  answer-precision h = refused (inOrder-stop 0 Precision _ (le-ltb precision 2 h))
+
+  module _ (known : precision < 2) where
+    pub answer-shift : 31 < shift → Denied Shift 0 ≡ quantizeAnswer d offset scale shift precision
+    unfolding quantizeChecks
+    answer-shift h = refused (inOrder-next 0 Precision _ (lt-ltb precision 2 known) ∙ inOrder-stop 0 Shift _ (lt-leb shift 31 h))
+
+    pub answer-value : shift ≤ 31 → Value (quantized d offset scale shift precision) ≡ quantizeAnswer d offset scale shift precision
+    unfolding quantizeChecks
+    answer-value h = accepted (inOrder-next 0 Precision _ (lt-ltb precision 2 known) ∙ inOrder-next 0 Shift _ (le-leb shift 31 h) ∙ inOrder-nil)

@@ -1,0 +1,46 @@
+-- The scaled value as the code computes it: difference, product and shift stay within 64 bits, so each is the whole numbers' own. Assumes nothing.
+--     diff-fits, product-fits     the difference and the product are below 2 ^ 63
+--     shifted-value               the shifted product, read back
+use Prim.Native.Nat.{ℕ, _+_, _*_, _^_}
+use mathlib.Core.Path.{_≡_, sym, subst}
+use lib.Dec.{lit<}
+use lib.IntN.{ℤ, _-ℤ_, _*ℤ_}
+use lib.Signed.{shrZ}
+use mir.Syntax.{w16, w32, w64}
+use mir.Val.{SFits, toZ, ofZ}
+use mir.Facts.{sfits-widen, toZ-ofZ}
+use Rattle.integers.proofs.Ranges.{Within, within-take, within-times, within-shr, fits-within, within-fits}
+use Rattle.integers.proofs.Casts.{cast-value}
+
+-- a 16-bit and a 32-bit number, cast to 64 bits
+abbrev from16 : ℤ → ℤ
+from16 z = toZ w64 (ofZ w64 (toZ w16 (ofZ w16 z)))
+
+abbrev from32 : ℤ → ℤ
+from32 z = toZ w64 (ofZ w64 (toZ w32 (ofZ w32 z)))
+
+-- a 64-bit number, read back
+abbrev held : ℤ → ℤ
+held z = toZ w64 (ofZ w64 z)
+
+module _ {d offset scale : ℤ} (fd : SFits w32 d) (fo : SFits w16 offset) (fs : SFits w16 scale) where
+  diff-within : Within (2 ^ 31 + 2 ^ 15) (d -ℤ offset)
+  diff-within = within-take (fits-within fd) (fits-within fo)
+
+  product-within : Within ((2 ^ 31 + 2 ^ 15) * 2 ^ 15) ((d -ℤ offset) *ℤ scale)
+  product-within = within-times diff-within (fits-within fs)
+
+  diff-is : from32 d -ℤ from16 offset ≡ d -ℤ offset
+  diff-is = rw (cast-value fd (sfits-widen tt fd), cast-value fo (sfits-widen tt fo))
+
+  pub diff-fits : SFits w64 (from32 d -ℤ from16 offset)
+  diff-fits = subst (λ (v : ℤ). SFits w64 v) (sym diff-is) (within-fits diff-within (lit< tt))
+
+  product-is : held (from32 d -ℤ from16 offset) *ℤ from16 scale ≡ (d -ℤ offset) *ℤ scale
+  product-is = rw (toZ-ofZ diff-fits, diff-is, cast-value fs (sfits-widen tt fs))
+
+  pub product-fits : SFits w64 (held (from32 d -ℤ from16 offset) *ℤ from16 scale)
+  product-fits = subst (λ (v : ℤ). SFits w64 v) (sym product-is) (within-fits product-within (lit< tt))
+
+  pub shifted-value : (m : ℕ) → held (shrZ (held (held (from32 d -ℤ from16 offset) *ℤ from16 scale)) m) ≡ shrZ ((d -ℤ offset) *ℤ scale) m
+  shifted-value m = rw (toZ-ofZ product-fits, product-is) (toZ-ofZ (within-fits (within-shr m product-within) (lit< tt)))

@@ -1,0 +1,98 @@
+-- What a read depends on (scope paper, "Stalls"): the layout, the named slot, the box, the two lengths and the bytes of the box's elements. Two
+-- reads that agree on these answer the same and, accepted, give the same elements. Element by element. Assumes nothing.
+--     SameRead                        two reads agree
+--     same-answer, same-elements      they answer the same, and give the same elements
+use Prim.Native.Nat.{ℕ, _+_, _<_}
+use mathlib.Core.Path.{_≡_, refl, sym, ap, _∙_, subst}
+use mathlib.Core.Bool.{_&&_}
+use mathlib.Core.List.{List, [], _∷_, _++_}
+use lib.ListN.{length, getD}
+use lib.Seq.{ext-getD}
+use lib.Dec.{ltb}
+use lib.IntN.{ℤ, pos}
+use Rattle.refusal.specs.declared.Answer.{Answer}
+use Rattle.refusal.specs.declared.Answer.the-variants.{Accepted}
+use Rattle.refusal.specs.declared.Refusal.the-variants.{Slot as SlotRefusal, Bounds}
+use Rattle.refusal.specs.Checks.{require, inOrder}
+use Rattle.refusal.proofs.CheckLaws.{leaves-done}
+use Rattle.elements.specs.Lists.{tabulate}
+use Rattle.elements.proofs.ByteLaws.{elementAt-ext}
+use Rattle.elements.proofs.TabulateLaws.{length-tabulate, getD-tabulate}
+use Rattle.layout.specs.declared.CubeLayout.{CubeLayout}
+use Rattle.layout.specs.declared.ElementBox.{ElementBox}
+use Rattle.layout.specs.Geometry.{sizeOf, elementPosition}
+use Rattle.layout.specs.Boxes.{boxCount, channelAt, rowAt, columnAt}
+use Rattle.layout.specs.Rules.{layoutChecks, storageChecks}
+use Rattle.layout.specs.Contents.{storedElement, boxElements}
+use Rattle.layout.proofs.BoxLaws.{BoxTaken, InBox, at-in}
+use Rattle.regions.specs.declared.RegionTable.{RegionTable}
+use Rattle.regions.specs.Slots.{Slot, slotsOf, rectangleInside}
+use Rattle.regions.specs.Rules.{slotAt, isFilled, rectangleOf, rectangleAt, boxInRectangle, cubeBox, areaChecks, readChecks}
+use Rattle.regions.specs.Calls.{readAnswer, readElements}
+use Rattle.regions.proofs.RuleLaws.{area-inside, read-area}
+
+-- ---- the elements of a box, from its elements' bytes alone
+
+tabulate-ext : (n : ℕ) (f g : ℕ → ℤ) → ((i : ℕ) → i < n → f i ≡ g i) → tabulate n f ≡ tabulate n g
+tabulate-ext n f g h =
+    ext-getD (pos 0) (tabulate n f) (tabulate n g) (length-tabulate f n ∙ sym (length-tabulate g n))
+    (λ i k. let l : i < n = subst (λ (m : ℕ). i < m) (length-tabulate f n) k in getD-tabulate f n i (pos 0) l ∙ h i l ∙ sym (getD-tabulate g n i (pos 0) l))
+
+module _ (q : CubeLayout) (box : ElementBox) (buffer buffer′ : List ℕ)
+    (bytes : (c h w k : ℕ) → InBox box c h w → k < sizeOf q → getD buffer (elementPosition q c h w + k) 0 ≡ getD buffer′ (elementPosition q c h w + k) 0) where
+  stored-same : (c h w : ℕ) → InBox box c h w → storedElement q buffer c h w ≡ storedElement q buffer′ c h w
+  unfolding storedElement
+  stored-same c h w i = elementAt-ext (sizeOf q) buffer buffer′ (elementPosition q c h w) (elementPosition q c h w) (λ k l. bytes c h w k i l)
+
+  pub box-same : BoxTaken q box → boxElements q box buffer ≡ boxElements q box buffer′
+  unfolding boxElements
+  box-same t =
+      tabulate-ext (boxCount box)
+      (λ (i : ℕ). storedElement q buffer (channelAt box i) (rowAt box i) (columnAt box i))
+      (λ (i : ℕ). storedElement q buffer′ (channelAt box i) (rowAt box i) (columnAt box i))
+      (λ i l. stored-same (channelAt box i) (rowAt box i) (columnAt box i) (at-in box i l (t .rows .some) (t .columns .some)))
+
+-- ---- the checks look at the named slot alone
+
+checksOf : CubeLayout → Slot → ℕ → ElementBox → ℕ → ℕ → List Answer
+checksOf q s n b given len =
+    (layoutChecks q
+    ++ (require SlotRefusal (ltb n 16 && isFilled s) ∷ require Bounds (rectangleInside q (rectangleOf s) && boxInRectangle q (rectangleOf s) b) ∷ []))
+    ++ storageChecks q (boxCount b) given len
+
+by-slot : (q : CubeLayout) (slots : List Slot) (n : ℕ) (b : ElementBox) (given len : ℕ) → readChecks q slots n b given len ≡ checksOf q (slotAt slots n) n b given len
+unfolding readChecks areaChecks checksOf
+by-slot q slots n b given len = refl
+
+-- ---- two reads
+
+-- two tables, buffers and lent elements agree on what a read of a box through a slot depends on
+pub record SameRead (n : ℕ) (b : ElementBox) (t t′ : RegionTable) (buffer buffer′ : List ℕ) (xs xs′ : List ℤ) : Type 0 where
+  pub layout : t .layout ≡ t′ .layout
+  pub slot : slotAt (slotsOf t) n ≡ slotAt (slotsOf t′) n
+  pub buffers : length buffer ≡ length buffer′
+  pub lent : length xs ≡ length xs′
+  pub bytes : (c h w k : ℕ) → InBox (cubeBox (rectangleAt (slotsOf t) n) b) c h w → k < sizeOf (t .layout)
+      → getD buffer (elementPosition (t .layout) c h w + k) 0 ≡ getD buffer′ (elementPosition (t .layout) c h w + k) 0
+
+module _ (n : ℕ) (b : ElementBox) (t t′ : RegionTable) (buffer buffer′ : List ℕ) (xs xs′ : List ℤ) (same : SameRead n b t t′ buffer buffer′ xs xs′) where
+  pub same-answer : readAnswer t n b (length xs) (length buffer) ≡ readAnswer t′ n b (length xs′) (length buffer′)
+  unfolding readAnswer
+  same-answer =
+      let checks : checksOf (t .layout) (slotAt (slotsOf t) n) n b (length xs) (length buffer) ≡ checksOf (t′ .layout) (slotAt (slotsOf t′) n) n b (length xs′) (length buffer′) =
+      rw (same .slot, same .layout, same .buffers, same .lent)
+      in
+      ap inOrder (by-slot (t .layout) (slotsOf t) n b (length xs) (length buffer) ∙ checks)
+      ∙ sym (ap inOrder (by-slot (t′ .layout) (slotsOf t′) n b (length xs′) (length buffer′)))
+
+  pub same-elements : readAnswer t n b (length xs) (length buffer) ≡ Accepted → readElements t n b buffer xs ≡ readElements t′ n b buffer′ xs′
+  unfolding readElements readAnswer
+  same-elements a =
+      let box = cubeBox (rectangleAt (slotsOf t) n) b in
+      let box′ = cubeBox (rectangleAt (slotsOf t′) n) b in
+      let i = area-inside (t .layout) (slotsOf t) n b (read-area (t .layout) (slotsOf t) n b (length xs) (length buffer) a) in
+      let moved : boxElements (t .layout) box buffer′ ≡ boxElements (t′ .layout) box′ buffer′ = rw (same .slot, same .layout) in
+      leaves-done (boxElements (t .layout) box buffer) xs a
+      ∙ box-same (t .layout) box buffer buffer′ (same .bytes) (i .area)
+      ∙ moved
+      ∙ sym (leaves-done (boxElements (t′ .layout) box′ buffer′) xs′ (sym same-answer ∙ a))

@@ -1,0 +1,65 @@
+-- `regions::edit` meets its contract: a call refused by 1 to 4, 8 or 9 writes nothing, and past them it writes the cube's box. Assumes nothing.
+use mathlib.Core.Path.{_≡_, refl, sym, _∙_}
+use lib.ListN.{length}
+use Rattle.refusal.specs.declared.Answer.the-variants.{Accepted}
+use Rattle.refusal.specs.Checks.{inOrder}
+use Rattle.regions.specs.Slots.{slotsOf}
+use Rattle.regions.specs.Rules.{areaChecks}
+use Rattle.regions.proofs.CallLaws.{edit-denied, edit-kept, edit-answered, edit-left}
+use borrow.Author.Needs.{needs}
+use Rattle.regions.proofs.edit.Statement.{statement}
+use Rattle.regions.proofs.edit.Tie as tie
+
+abbrev start : tie.After-enum-told → tie.Start
+start c = c .before .before .before .before
+
+accepted : (c : tie.After-enum-told) → inOrder (areaChecks (start c .args .table .layout) (slotsOf (start c .args .table)) (start c .args .slot) (start c .args .area)) ≡ Accepted
+accepted c = sym (c .before .before .check-area .ensures) ∙ c .enum-told .given .1
+
+check-area-requires : tie.Need-check-area-requires
+check-area-requires c κs = search needs
+
+enum-told : tie.Need-enum-told
+enum-told c = search needs
+
+enum-told-2 : tie.Need-enum-told-2
+enum-told-2 c = search needs
+
+returns : tie.Need-returns
+returns c = let d = c .before .before in
+    let a = d .before .before .args in
+    let no-area = sym (d .check-area .ensures) ∙ c .enum-told2 .given .1 in (
+      c .enum-told2 .given .1 ∙ sym (edit-denied (a .table) (a .slot) (a .area) (a .elements .now) (length (a .buffer .now)) no-area),
+      (refl, edit-kept (a .table) (a .slot) (a .area) (a .elements .now) (a .buffer .now) no-area),
+    )
+
+cube-box-requires : tie.Need-cube-box-requires
+cube-box-requires c κs = accepted c
+
+write-box-requires : tie.Need-write-box-requires
+write-box-requires c κs = search needs
+
+same-length : tie.Need-same-length
+same-length c = search needs
+
+returns-2 : tie.Need-returns-2
+returns-2 c = let f = c .before .before in
+    let m = f .before .before in
+    let e = m .before in
+    let a = start e .args in (
+      f .write-box .ensures .0 ∙ edit-answered (a .table) (a .slot) (a .area) (a .elements .now) (m .cube-box .ensures) (accepted e) (length (a .buffer .now)),
+      (refl, f .write-box .ensures .1 ∙ edit-left (a .table) (a .slot) (a .area) (a .elements .now) (m .cube-box .ensures) (accepted e) (a .buffer .now)),
+    )
+
+pub edit-spec : {M : Type 1} → statement M
+edit-spec =
+    tie.close
+    (tie.spec
+    check-area-requires
+    enum-told
+    enum-told-2
+    returns
+    cube-box-requires
+    write-box-requires
+    same-length
+    returns-2)

@@ -1,0 +1,47 @@
+-- What placing, editing and reading answer and leave (scope paper, "Stalls"). Where a call is refused, the table and every lent list stay as
+-- they were; an edit and a read hand the table back as it came. Assumes nothing.
+use Prim.Native.Nat.{ℕ}
+use mathlib.Core.Bool.{true, false}
+use mathlib.Core.List.{List}
+use lib.ListN.{length, set, replicate}
+use lib.IntN.{ℤ}
+use Rattle.refusal.specs.declared.Answer.{Answer}
+use Rattle.refusal.specs.Checks.{inOrder, leaves}
+use Rattle.layout.specs.declared.CubeLayout.{CubeLayout}
+use Rattle.layout.specs.declared.ElementBox.{ElementBox}
+use Rattle.layout.specs.Contents.{edited, boxElements}
+use Rattle.regions.specs.declared.Region.{Region}
+use Rattle.regions.specs.declared.RegionTable.{RegionTable}
+use Rattle.regions.specs.Slots.{Rectangle, slotsOf}
+use Rattle.regions.specs.Rules.{placeChecks, readChecks, editChecks, rectangleAt, cubeBox}
+
+-- the empty table of a layout
+abbrev pub emptyTable : CubeLayout → RegionTable
+emptyTable q = record { layout = q; slots = replicate 16 (record { placed = false; column = 0; row = 0; columns = 0; rows = 0 }) }
+
+-- a slot with a region placed in it
+abbrev pub placedRegion : Rectangle → Region
+placedRegion g = record { placed = true; column = g .column; row = g .row; columns = g .columns; rows = g .rows }
+
+-- place
+unfoldable pub placeAnswer : RegionTable → ℕ → Rectangle → Answer
+placeAnswer t n g = inOrder (placeChecks (t .layout) (slotsOf t) n g)
+
+unfoldable pub placeTable : RegionTable → ℕ → Rectangle → RegionTable
+placeTable t n g = leaves (placeAnswer t n g) (record { layout = t .layout; slots = set (t .slots) n (placedRegion g) }) t
+
+-- edit: the box is counted from the corner of the region in the slot
+unfoldable pub editAnswer : RegionTable → ℕ → ElementBox → List ℤ → ℕ → Answer
+editAnswer t n b elements len = inOrder (editChecks (t .layout) (slotsOf t) n b elements len)
+
+unfoldable pub editBuffer : RegionTable → ℕ → ElementBox → List ℤ → List ℕ → List ℕ
+editBuffer t n b elements before =
+    leaves (editAnswer t n b elements (length before)) (edited (t .layout) (cubeBox (rectangleAt (slotsOf t) n) b) elements before) before
+
+-- read
+unfoldable pub readAnswer : RegionTable → ℕ → ElementBox → ℕ → ℕ → Answer
+readAnswer t n b given len = inOrder (readChecks (t .layout) (slotsOf t) n b given len)
+
+unfoldable pub readElements : RegionTable → ℕ → ElementBox → List ℕ → List ℤ → List ℤ
+readElements t n b buffer before =
+    leaves (readAnswer t n b (length before) (length buffer)) (boxElements (t .layout) (cubeBox (rectangleAt (slotsOf t) n) b) buffer) before

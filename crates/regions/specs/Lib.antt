@@ -1,0 +1,4 @@
+pub mod Slots
+pub mod Rules
+pub mod Calls
+pub mod Steps

@@ -1,0 +1,144 @@
+// Sixteen regions of interest in one cube, edited side by side (scope paper, "Stalls").
+mod overlap;
+mod rules;
+
+ghost use mathlib.Core.Path.{_≡_};
+ghost use lib.ListN.{length};
+ghost use Rattle.regions.specs.Slots.{rectangle};
+ghost use Rattle.regions.specs.Calls.{emptyTable, placeAnswer, placeTable, editAnswer, editBuffer, readAnswer, readElements};
+use layout::CubeLayout;
+use layout::ElementBox;
+use refusal::Answer;
+
+// A slot of the table: whether a region is placed in it, and the region's first column and row, columns and rows. It reaches over all channels
+// (the scope paper's "stall"). The numbers of a slot that is not placed mean nothing.
+pub struct Region {
+    pub placed: bool,
+    pub column: u32,
+    pub row: u32,
+    pub columns: u32,
+    pub rows: u32,
+}
+
+// A cube's layout and its sixteen slots (the scope paper's "desk").
+pub struct RegionTable {
+    pub layout: CubeLayout,
+    pub slots: [Region; 16],
+}
+
+// What a call answers, and the table handed back.
+pub struct Outcome {
+    pub answer: Answer,
+    pub table: RegionTable,
+}
+
+// The table of a layout with no region placed; the calls on it check the layout.
+pub fn empty(layout: CubeLayout) -> RegionTable
+    ensures { λ r. ⌜ r ≡ emptyTable layout ⌝ }
+{
+    let none = Region {
+        placed: false,
+        column: 0,
+        row: 0,
+        columns: 0,
+        rows: 0,
+    };
+    let slots = [none; 16];
+    RegionTable {
+        layout: layout,
+        slots: slots,
+    }
+}
+
+// Places a region in an empty slot.
+pub fn place(
+    table: RegionTable,
+    slot: u32,
+    column: u32,
+    row: u32,
+    columns: u32,
+    rows: u32,
+) -> Outcome
+    ensures answered { λ r. ⌜ r .answer ≡ placeAnswer table slot (rectangle column row columns rows) ⌝ }
+    ensures left { λ r. ⌜ r .table ≡ placeTable table slot (rectangle column row columns rows) ⌝ }
+{
+    let a = rules::check_place(table, slot, column, row, columns, rows);
+    let Answer::Accepted = a else {
+        return Outcome {
+            answer: a,
+            table: table,
+        };
+    };
+    let layout = table.layout;
+    let mut slots = table.slots;
+    let i = slot as usize;
+    slots[i] = Region {
+        placed: true,
+        column: column,
+        row: row,
+        columns: columns,
+        rows: rows,
+    };
+    let after = RegionTable {
+        layout: layout,
+        slots: slots,
+    };
+    Outcome {
+        answer: a,
+        table: after,
+    }
+}
+
+// Writes the elements of a box, counted from the corner of the region in a slot, and no other byte.
+pub fn edit(
+    table: RegionTable,
+    slot: u32,
+    area: ElementBox,
+    elements: &[i16],
+    buffer: &mut [u8],
+) -> Outcome
+    ensures answered { λ r. ⌜ r .answer ≡ editAnswer table slot area (now (elements .entry)) (length (now (buffer .entry))) ⌝ }
+    ensures kept { λ r. ⌜ r .table ≡ table ⌝ }
+    ensures left { λ r. ⌜ now (buffer .exit) ≡ editBuffer table slot area (now (elements .entry)) (now (buffer .entry)) ⌝ }
+{
+    let a = rules::check_area(table, slot, area);
+    let Answer::Accepted = a else {
+        return Outcome {
+            answer: a,
+            table: table,
+        };
+    };
+    let moved = rules::cube_box(table, slot, area);
+    let answer = cube::write_box(table.layout, moved, elements, buffer);
+    Outcome {
+        answer: answer,
+        table: table,
+    }
+}
+
+// Reads the elements of a box, counted from the corner of the region in a slot.
+pub fn read(
+    table: RegionTable,
+    slot: u32,
+    area: ElementBox,
+    buffer: &[u8],
+    elements: &mut [i16],
+) -> Outcome
+    ensures answered { λ r. ⌜ r .answer ≡ readAnswer table slot area (length (now (elements .entry))) (length (now (buffer .entry))) ⌝ }
+    ensures kept { λ r. ⌜ r .table ≡ table ⌝ }
+    ensures left { λ r. ⌜ now (elements .exit) ≡ readElements table slot area (now (buffer .entry)) (now (elements .entry)) ⌝ }
+{
+    let a = rules::check_area(table, slot, area);
+    let Answer::Accepted = a else {
+        return Outcome {
+            answer: a,
+            table: table,
+        };
+    };
+    let source = rules::cube_box(table, slot, area);
+    let answer = cube::read_box(table.layout, source, buffer, elements);
+    Outcome {
+        answer: answer,
+        table: table,
+    }
+}

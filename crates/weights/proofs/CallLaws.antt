@@ -1,0 +1,96 @@
+-- What an accepted call tells, and what each call answers and leaves, by the answers of its checks. Assumes nothing.
+--     Admitted, admitted             what checks 1, 2, 6, 5 tell
+--     pack-admitted, pack-values     what an accepted packing tells
+--     pack-refused, pack-outside, pack-taken, unpack-refused, unpack-taken     answer and contents by the checks
+use Prim.Native.Nat.{ℕ, _≤_}
+use mathlib.Core.Path.{_≡_, sym, _∙_}
+use mathlib.Core.Bool.{Bool, true}
+use mathlib.Core.List.{List, [], _∷_}
+use lib.ListN.{length}
+use lib.Dec.{leb, ltb, eqb}
+use lib.IntN.{ℤ}
+use borrow.Author.Tests.{leb-true, eqb-true}
+use Rattle.refusal.specs.declared.Answer.{Answer}
+use Rattle.refusal.specs.declared.Answer.the-variants.{Accepted, Refused}
+use Rattle.refusal.specs.declared.Refusal.{Refusal}
+use Rattle.refusal.specs.declared.Refusal.the-variants.{Size, Precision, BufferLength, ElementCount}
+use Rattle.refusal.specs.Checks.{inOrder, require}
+use Rattle.refusal.proofs.CheckLaws.{inOrder-held, inOrder-rest, inOrder-front, inOrder-back, inOrder-passed, inOrder-refused, leaves-done, leaves-before}
+use Rattle.elements.specs.Values.{valueChecks}
+use Rattle.weights.specs.declared.WeightLayout.{WeightLayout}
+use Rattle.weights.specs.Geometry.{elementCount, surfaceBytes}
+use Rattle.weights.specs.Rules.{sizesTaken, weightChecks}
+use Rattle.weights.specs.Contents.{packed, unpacked}
+use Rattle.weights.specs.Calls.{packAnswer, packBuffer, unpackAnswer, unpackElements}
+use Rattle.weights.proofs.Taken.{Taken, taken}
+
+-- an accepted call: the sizes are taken, the elements are as many as the tensor has, the buffer holds the surface
+pub record Admitted (q : WeightLayout) (given len : ℕ) : Type 0 where
+  pub sizes : sizesTaken q ≡ true
+  pub layout : Taken q
+  pub count : given ≡ elementCount q
+  pub room : surfaceBytes q ≤ len
+
+pub admitted : (q : WeightLayout) (given len : ℕ) → inOrder (weightChecks q given len) ≡ Accepted → Admitted q given len
+unfolding weightChecks
+admitted q given len e =
+    let sz : Bool = sizesTaken q in
+    let pr : Bool = ltb (q .precision) 3 in
+    let co : Bool = eqb given (elementCount q) in
+    let ro : Bool = leb (surfaceBytes q) len in
+    let r3 : List Answer = require BufferLength ro ∷ [] in
+    let r2 : List Answer = require ElementCount co ∷ r3 in
+    let r1 : List Answer = require Precision pr ∷ r2 in
+    let e1 = inOrder-rest 0 Size sz r1 e in
+    let e2 = inOrder-rest 0 Precision pr r2 e1 in
+    let e3 = inOrder-rest 0 ElementCount co r3 e2 in
+    let s = inOrder-held 0 Size sz r1 e in
+    record {
+      sizes = s;
+      layout = taken q s;
+      count = eqb-true given (elementCount q) (inOrder-held 0 ElementCount co r3 e2);
+      room = leb-true (surfaceBytes q) len (inOrder-held 0 BufferLength ro [] e3);
+    }
+
+module _ (q : WeightLayout) (raw : List ℤ) (before : List ℕ) where
+  pub pack-admitted : packAnswer q raw (length before) ≡ Accepted → Admitted q (length raw) (length before)
+  unfolding packAnswer
+  pack-admitted e = admitted q (length raw) (length before) (inOrder-front (weightChecks q (length raw) (length before)) (valueChecks (q .precision) raw) e)
+
+  pub pack-values : packAnswer q raw (length before) ≡ Accepted → inOrder (valueChecks (q .precision) raw) ≡ Accepted
+  unfolding packAnswer
+  pack-values e = inOrder-back (weightChecks q (length raw) (length before)) (valueChecks (q .precision) raw) e
+
+  abbrev Pack : Answer → List ℕ → Type 0
+  Pack answer after = (answer ≡ packAnswer q raw (length before)) × (after ≡ packBuffer q raw before)
+
+  by-refusal : {r : Refusal} {i : ℕ} → packAnswer q raw (length before) ≡ Refused r i → Pack (Refused r i) before
+  unfolding packBuffer
+  by-refusal e = (sym e, sym (leaves-before (packed q raw before) before e))
+
+  pub pack-refused : {r : Refusal} {i : ℕ} → inOrder (weightChecks q (length raw) (length before)) ≡ Refused r i → Pack (Refused r i) before
+  pack-refused e = by-refusal (unfold packAnswer in inOrder-refused (weightChecks q (length raw) (length before)) (valueChecks (q .precision) raw) e)
+
+  module _ (passed : inOrder (weightChecks q (length raw) (length before)) ≡ Accepted) where
+    to-values : packAnswer q raw (length before) ≡ inOrder (valueChecks (q .precision) raw)
+    unfolding packAnswer
+    to-values = inOrder-passed (weightChecks q (length raw) (length before)) (valueChecks (q .precision) raw) passed
+
+    pub pack-outside : {r : Refusal} {i : ℕ} → inOrder (valueChecks (q .precision) raw) ≡ Refused r i → Pack (Refused r i) before
+    pack-outside e = by-refusal (to-values ∙ e)
+
+    pub pack-taken : inOrder (valueChecks (q .precision) raw) ≡ Accepted → Pack Accepted (packed q raw before)
+    unfolding packBuffer
+    pack-taken e = (sym (to-values ∙ e), sym (leaves-done (packed q raw before) before (to-values ∙ e)))
+
+module _ (q : WeightLayout) (buffer : List ℕ) (before : List ℤ) where
+  abbrev Unpack : Answer → List ℤ → Type 0
+  Unpack answer after = (answer ≡ unpackAnswer q (length before) (length buffer)) × (after ≡ unpackElements q buffer before)
+
+  pub unpack-refused : {r : Refusal} {i : ℕ} → inOrder (weightChecks q (length before) (length buffer)) ≡ Refused r i → Unpack (Refused r i) before
+  unfolding unpackAnswer unpackElements
+  unpack-refused e = (sym e, sym (leaves-before (unpacked q buffer) before e))
+
+  pub unpack-taken : inOrder (weightChecks q (length before) (length buffer)) ≡ Accepted → Unpack Accepted (unpacked q buffer)
+  unfolding unpackAnswer unpackElements
+  unpack-taken e = (sym e, sym (leaves-done (unpacked q buffer) before e))

@@ -1,0 +1,92 @@
+-- The rules and the order of checks 1, 2, 6, 5 as the code goes through them, one test after another. Assumes nothing.
+--     size-small, size-large                one size
+--     sizes-kernels .. sizes-columns        the four sizes
+--     check-sizes .. check-taken            the checks
+use Prim.Native.Nat.{ℕ, _≤_, _<_}
+use mathlib.Core.Path.{_≡_, sym, _∙_}
+use mathlib.Core.Bool.{true, false}
+use mathlib.Core.List.{List, [], _∷_}
+use lib.Dec.{leb, ltb, eqb}
+use borrow.Author.Tests.{lt-ltb, le-ltb, le-leb, lt-leb, eq-eqb, ne-eqb}
+use Rattle.refusal.specs.declared.Answer.{Answer}
+use Rattle.refusal.specs.declared.Answer.the-variants.{Accepted, Refused}
+use Rattle.refusal.specs.declared.Refusal.the-variants.{Size, Precision, BufferLength, ElementCount}
+use Rattle.refusal.specs.Checks.{inOrder, require}
+use Rattle.refusal.proofs.CheckLaws.{inOrder-nil, inOrder-next, inOrder-stop}
+use Rattle.weights.specs.declared.WeightLayout.{WeightLayout}
+use Rattle.weights.specs.Geometry.{elementCount, surfaceBytes}
+use Rattle.weights.specs.Rules.{sizeTaken, sizesTaken, weightChecks}
+
+pub size-small : (most n : ℕ) → n < 1 → false ≡ sizeTaken most n
+unfolding sizeTaken
+size-small most n h = rw (lt-leb 1 n h)
+
+pub size-large : (most n : ℕ) → 1 ≤ n → leb n most ≡ sizeTaken most n
+unfolding sizeTaken
+size-large most n h = rw (le-leb 1 n h)
+
+module _ (q : WeightLayout) where
+  pub sizes-kernels : sizeTaken 8192 (q .kernels) ≡ false → false ≡ sizesTaken q
+  unfolding sizesTaken
+  sizes-kernels e = rw e
+
+  module _ (k : sizeTaken 8192 (q .kernels) ≡ true) where
+    pub sizes-channels : sizeTaken 8192 (q .channels) ≡ false → false ≡ sizesTaken q
+    unfolding sizesTaken
+    sizes-channels e = rw (k, e)
+
+    module _ (c : sizeTaken 8192 (q .channels) ≡ true) where
+      pub sizes-rows : sizeTaken 32 (q .rows) ≡ false → false ≡ sizesTaken q
+      unfolding sizesTaken
+      sizes-rows e = rw (k, c, e)
+
+      pub sizes-columns : sizeTaken 32 (q .rows) ≡ true → sizeTaken 32 (q .columns) ≡ sizesTaken q
+      unfolding sizesTaken
+      sizes-columns r = rw (k, c, r)
+
+module _ (q : WeightLayout) (given len : ℕ) where
+  r4 : List Answer
+  r4 = require BufferLength (leb (surfaceBytes q) len) ∷ []
+
+  r3 : List Answer
+  unfolding r4
+  r3 = require ElementCount (eqb given (elementCount q)) ∷ r4
+
+  r2 : List Answer
+  unfolding r3
+  r2 = require Precision (ltb (q .precision) 3) ∷ r3
+
+  pub check-sizes : sizesTaken q ≡ false → Refused Size 0 ≡ inOrder (weightChecks q given len)
+  unfolding weightChecks r2
+  check-sizes e = sym (inOrder-stop 0 Size r2 e)
+
+  module _ (sz : sizesTaken q ≡ true) where
+    to-precision : inOrder (weightChecks q given len) ≡ inOrder r2
+    unfolding weightChecks r2
+    to-precision = inOrder-next 0 Size r2 sz
+
+    pub check-precision : 3 ≤ q .precision → Refused Precision 0 ≡ inOrder (weightChecks q given len)
+    unfolding r2
+    check-precision h = sym (to-precision ∙ inOrder-stop 0 Precision r3 (le-ltb (q .precision) 3 h))
+
+    module _ (pr : q .precision < 3) where
+      to-count : inOrder (weightChecks q given len) ≡ inOrder r3
+      unfolding r2
+      to-count = to-precision ∙ inOrder-next 0 Precision r3 (lt-ltb (q .precision) 3 pr)
+
+      pub check-count : (given ≡ elementCount q → ⊥) → Refused ElementCount 0 ≡ inOrder (weightChecks q given len)
+      unfolding r3
+      check-count f = sym (to-count ∙ inOrder-stop 0 ElementCount r4 (ne-eqb given (elementCount q) f))
+
+      module _ (count : given ≡ elementCount q) where
+        to-room : inOrder (weightChecks q given len) ≡ inOrder r4
+        unfolding r3
+        to-room = to-count ∙ inOrder-next 0 ElementCount r4 (eq-eqb given (elementCount q) count)
+
+        pub check-room : len < surfaceBytes q → Refused BufferLength 0 ≡ inOrder (weightChecks q given len)
+        unfolding r4
+        check-room h = sym (to-room ∙ inOrder-stop 0 BufferLength [] (lt-leb (surfaceBytes q) len h))
+
+        pub check-taken : surfaceBytes q ≤ len → Accepted ≡ inOrder (weightChecks q given len)
+        unfolding r4
+        check-taken h = sym (to-room ∙ inOrder-next 0 BufferLength [] (le-leb (surfaceBytes q) len h) ∙ inOrder-nil)

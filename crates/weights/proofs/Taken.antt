@@ -1,0 +1,54 @@
+-- What accepted sizes tell: the facts behind check 1, which are all that the laws of places need, whatever the precision code. By taking the
+-- check's tests apart. Assumes nothing.
+--     and-left, and-right     both halves of a test that holds
+--     Taken, taken            the facts of a layout that check 1 takes
+use Prim.Native.Nat.{ℕ, _≤_, _<_}
+use mathlib.Core.Path.{_≡_, refl}
+use mathlib.Core.Bool.{Bool, true, false, _&&_}
+use lib.Dec.{leb}
+use borrow.Author.Tests.{leb-true}
+use Rattle.weights.specs.declared.WeightLayout.{WeightLayout}
+use Rattle.weights.specs.Rules.{sizeTaken, sizesTaken}
+
+pub and-left : (a b : Bool) → (a && b) ≡ true → a ≡ true
+and-left true b e = refl
+and-left false b e = e
+
+pub and-right : (a b : Bool) → (a && b) ≡ true → b ≡ true
+and-right true b e = e
+and-right false b e = cc
+
+-- a size is 1 to `most`
+pub record Within (most n : ℕ) : Type 0 where
+  pub some : 0 < n
+  pub most-le : n ≤ most
+
+size-within : (most n : ℕ) → sizeTaken most n ≡ true → Within most n
+unfolding sizeTaken
+size-within most n e =
+    record {
+      some = leb-true 1 n (and-left (leb 1 n) (leb n most) e);
+      most-le = leb-true n most (and-right (leb 1 n) (leb n most) e);
+    }
+
+pub record Taken (q : WeightLayout) : Type 0 where
+  pub kernels : Within 8192 (q .kernels)
+  pub channels : Within 8192 (q .channels)
+  pub rows : Within 32 (q .rows)
+  pub columns : Within 32 (q .columns)
+
+pub taken : (q : WeightLayout) → sizesTaken q ≡ true → Taken q
+unfolding sizesTaken
+taken q e =
+    let k = sizeTaken 8192 (q .kernels) in
+    let c = sizeTaken 8192 (q .channels) in
+    let r = sizeTaken 32 (q .rows) in
+    let s = sizeTaken 32 (q .columns) in
+    let e3 = and-left (k && c && r) s e in
+    let e2 = and-left (k && c) r e3 in
+    record {
+      kernels = size-within 8192 (q .kernels) (and-left k c e2);
+      channels = size-within 8192 (q .channels) (and-right k c e2);
+      rows = size-within 32 (q .rows) (and-right (k && c) r e3);
+      columns = size-within 32 (q .columns) (and-right (k && c && r) s e);
+    }

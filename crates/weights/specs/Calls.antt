@@ -1,0 +1,26 @@
+-- What each call on weights answers and leaves (scope paper, "Weights", "Refusal numbers": "Orders"). Where a call is refused, every lent list
+-- stays as it was. Assumes nothing.
+use Prim.Native.Nat.{ℕ}
+use mathlib.Core.List.{List, _++_}
+use lib.ListN.{length}
+use lib.IntN.{ℤ}
+use Rattle.refusal.specs.declared.Answer.{Answer}
+use Rattle.refusal.specs.Checks.{inOrder, leaves}
+use Rattle.elements.specs.Values.{valueChecks}
+use Rattle.weights.specs.declared.WeightLayout.{WeightLayout}
+use Rattle.weights.specs.Rules.{weightChecks}
+use Rattle.weights.specs.Contents.{packed, unpacked}
+
+-- pack: 1, 2, 6, 5, 7
+unfoldable pub packAnswer : WeightLayout → List ℤ → ℕ → Answer
+packAnswer q raw len = inOrder (weightChecks q (length raw) len ++ valueChecks (q .precision) raw)
+
+unfoldable pub packBuffer : WeightLayout → List ℤ → List ℕ → List ℕ
+packBuffer q raw before = leaves (packAnswer q raw (length before)) (packed q raw before) before
+
+-- unpack: 1, 2, 6, 5
+unfoldable pub unpackAnswer : WeightLayout → ℕ → ℕ → Answer
+unpackAnswer q given len = inOrder (weightChecks q given len)
+
+unfoldable pub unpackElements : WeightLayout → List ℕ → List ℤ → List ℤ
+unpackElements q buffer before = leaves (unpackAnswer q (length before) (length buffer)) (unpacked q buffer) before

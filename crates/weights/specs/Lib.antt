@@ -1,0 +1,5 @@
+pub mod Geometry
+pub mod Rules
+pub mod Contents
+pub mod Calls
+pub mod Steps

@@ -1,0 +1,27 @@
+-- Which weight settings are taken, and the order in which they are checked (scope paper, "Weights", "Refusal numbers"). Assumes nothing.
+use Prim.Native.Nat.{ℕ}
+use mathlib.Core.Bool.{Bool, _&&_}
+use mathlib.Core.List.{List, [], _∷_}
+use lib.Dec.{leb, ltb, eqb}
+use Rattle.refusal.specs.declared.Refusal.the-variants.{Size, Precision, BufferLength, ElementCount}
+use Rattle.refusal.specs.declared.Answer.{Answer}
+use Rattle.refusal.specs.Checks.{require}
+use Rattle.weights.specs.declared.WeightLayout.{WeightLayout}
+use Rattle.weights.specs.Geometry.{elementCount, surfaceBytes}
+
+-- 1 to `most`
+unfoldable pub sizeTaken : ℕ → ℕ → Bool
+sizeTaken most n = leb 1 n && leb n most
+
+-- kernels and channels 1 to 8192, rows and columns 1 to 32
+unfoldable pub sizesTaken : WeightLayout → Bool
+sizesTaken q = sizeTaken 8192 (q .kernels) && sizeTaken 8192 (q .channels) && sizeTaken 32 (q .rows) && sizeTaken 32 (q .columns)
+
+-- 1, 2, 6, 5: sizes, precision, `given` elements, a buffer of `len` bytes
+unfoldable pub weightChecks : WeightLayout → ℕ → ℕ → List Answer
+weightChecks q given len =
+    require Size (sizesTaken q)
+    ∷ require Precision (ltb (q .precision) 3)
+    ∷ require ElementCount (eqb given (elementCount q))
+    ∷ require BufferLength (leb (surfaceBytes q) len)
+    ∷ []

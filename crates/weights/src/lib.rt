@@ -1,0 +1,73 @@
+// Direct-convolution weights, packed and read back (scope paper, "Weights").
+mod load;
+mod measure;
+mod rules;
+mod store;
+mod tiles;
+
+ghost use mathlib.Core.Path.{_≡_};
+ghost use lib.ListN.{length};
+ghost use Rattle.refusal.specs.Checks.{inOrder};
+ghost use Rattle.weights.specs.Rules.{weightChecks};
+ghost use Rattle.weights.specs.Calls.{packAnswer, packBuffer, unpackAnswer, unpackElements};
+use refusal::Answer;
+use refusal::Refusal;
+
+// Kernels, channels, rows and columns of a weight tensor (the scope paper's K, C, R, S), and its precision code.
+pub struct WeightLayout {
+    pub kernels: u32,
+    pub channels: u32,
+    pub rows: u32,
+    pub columns: u32,
+    pub precision: u32,
+}
+
+// Checks 1, 2, 6, 5 of a call that lends `given` elements and a buffer of `len` bytes.
+fn check(layout: WeightLayout, given: usize, len: usize) -> Answer
+    ensures { λ r. ⌜ r ≡ inOrder (weightChecks layout given len) ⌝ }
+{
+    if !rules::sizes_taken(layout) {
+        return Answer::Refused(Refusal::Size, 0);
+    }
+    if 3 <= layout.precision {
+        return Answer::Refused(Refusal::Precision, 0);
+    }
+    if given as u64 != measure::element_count(layout) {
+        return Answer::Refused(Refusal::ElementCount, 0);
+    }
+    if (len as u64) < measure::surface_bytes(layout) {
+        return Answer::Refused(Refusal::BufferLength, 0);
+    }
+    Answer::Accepted
+}
+
+// Packs raw weights into a buffer: checks 1, 2, 6, 5, 7.
+pub fn pack(layout: WeightLayout, elements: &[i16], buffer: &mut [u8]) -> Answer
+    ensures { λ r. ⌜ r ≡ packAnswer layout (now (elements .entry)) (length (now (buffer .entry))) ⌝ }
+    ensures { λ r. ⌜ now (buffer .exit) ≡ packBuffer layout (now (elements .entry)) (now (buffer .entry)) ⌝ }
+{
+    let a = check(layout, elements.len(), buffer.len());
+    let Answer::Accepted = a else {
+        return a;
+    };
+    let v = elements::check_values(layout.precision, elements);
+    let Answer::Accepted = v else {
+        return v;
+    };
+    store::store_tiles(layout, elements, buffer);
+    store::clear_fill(layout, buffer);
+    Answer::Accepted
+}
+
+// Reads packed weights back into raw order: checks 1, 2, 6, 5.
+pub fn unpack(layout: WeightLayout, buffer: &[u8], elements: &mut [i16]) -> Answer
+    ensures { λ r. ⌜ r ≡ unpackAnswer layout (length (now (elements .entry))) (length (now (buffer .entry))) ⌝ }
+    ensures { λ r. ⌜ now (elements .exit) ≡ unpackElements layout (now (buffer .entry)) (now (elements .entry)) ⌝ }
+{
+    let a = check(layout, elements.len(), buffer.len());
+    let Answer::Accepted = a else {
+        return a;
+    };
+    load::load_tiles(layout, buffer, elements);
+    Answer::Accepted
+}
