@@ -1,11 +1,13 @@
 -- Laws of a list given by position (specs/Lists.antt). By induction on its length. Assumes nothing.
 --     length-tabulate     its length
 --     getD-tabulate       its entry i
+--     tabulate-ext        two that agree at each position
 use Prim.Native.Nat.{ℕ, zero, suc, _+_, _<_}
-use mathlib.Core.Path.{_≡_, refl, ap, _∙_}
+use mathlib.Core.Path.{_≡_, refl, sym, ap, subst, _∙_}
 use native.Mathlib.Nat.{le-of-suc-le-suc, not-suc-le-zero}
 use native.Mathlib.Omega.{arith}
 use lib.ListN.{length, getD}
+use lib.Seq.{ext-getD}
 use Rattle.elements.specs.Lists.{tabulateFrom, tabulate}
 
 module _ {A : Type 0} (f : ℕ → A) where
@@ -27,3 +29,11 @@ module _ {A : Type 0} (f : ℕ → A) where
   pub getD-tabulate : (n i : ℕ) (d : A) → i < n → getD (tabulate n f) i d ≡ f i
   unfolding tabulate
   getD-tabulate n i d h = getD-tabulateFrom zero n i d h ∙ ap f (omega arith)
+
+-- two lists given by position that agree at each
+pub tabulate-ext : {A : Type 0} (d : A) (n : ℕ) (f g : ℕ → A) → ((i : ℕ) → i < n → f i ≡ g i) → tabulate n f ≡ tabulate n g
+tabulate-ext d n f g e =
+    ext-getD d (tabulate n f) (tabulate n g) (length-tabulate f n ∙ sym (length-tabulate g n))
+    (λ i h.
+    let hi : i < n = subst (λ (m : ℕ). i < m) (length-tabulate f n) h in
+    getD-tabulate f n i d hi ∙ e i hi ∙ sym (getD-tabulate g n i d hi))

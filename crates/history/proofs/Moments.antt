@@ -35,7 +35,7 @@ module _ (q : CubeLayout) (raw : List ℤ) (before : List ℕ) where
         slots = refl;
         count = pack-admitted q raw (length before) ok .count ∙ whole-count q;
         fits = record { fit = packed-fits q raw (length before) (sixteen .each) ok };
-        bytes = leaves-done (packed q raw before) before ok
+        bytes = leaves-done (packed q raw before) before ok;
       }
 
   pub every-list : SixteenBit raw → packAnswer q raw (length before) ≡ Accepted → (calls : List Call) → LendsSixteenBit calls

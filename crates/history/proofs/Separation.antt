@@ -17,24 +17,24 @@ use lib.IntN.{ℤ, pos}
 use Rattle.refusal.specs.declared.Answer.{Answer}
 use Rattle.refusal.specs.declared.Answer.the-variants.{Accepted, Refused}
 use Rattle.refusal.specs.Checks.{inOrder, leaves}
-use Rattle.elements.proofs.ByteLaws.{elementAt-ext}
 use Rattle.layout.specs.declared.CubeLayout.{CubeLayout}
 use Rattle.layout.specs.declared.ElementBox.{ElementBox}
 use Rattle.layout.specs.Geometry.{sizeOf, elementPosition}
-use Rattle.layout.specs.Boxes.{spanInside, boxCount, channelAt, rowAt, columnAt}
-use Rattle.layout.specs.Contents.{edited, storedElement, boxElements}
-use Rattle.layout.proofs.Taken.{Taken, and-left, and-right}
-use Rattle.layout.proofs.BoxLaws.{Span, BoxTaken, InBox, InCube, in-cube, at-in}
+use Rattle.layout.specs.Boxes.{spanInside}
+use Rattle.layout.specs.Contents.{edited, boxElements}
+use Rattle.refusal.proofs.TestLaws.{and-left, and-right}
+use Rattle.layout.proofs.Taken.{Taken}
+use Rattle.layout.proofs.BoxLaws.{Span, BoxTaken, InBox, InCube, in-cube, span-inside}
 use Rattle.layout.proofs.ContentLaws.{edited-kept, edited-length}
 use Rattle.layout.proofs.Places.{element-own}
 use Rattle.regions.specs.declared.RegionTable.{RegionTable}
 use Rattle.regions.specs.Slots.{Rectangle, Slot, empty, filled, slotOf, slotsOf, emptySlots, rectangleInside}
 use Rattle.regions.specs.Rules.{slotAt, isFilled, rectangleOf, rectangleAt, boxInRectangle, cubeBox, placeChecks, editChecks, readChecks}
 use Rattle.regions.specs.Calls.{emptyTable, placeAnswer, placeTable, editAnswer, editBuffer, readAnswer, readElements}
-use Rattle.regions.proofs.RuleLaws.{Placing, place-accepted, Area, area-inside, edit-area, read-area, read-admitted, rectangle-columns, rectangle-rows, span-inside}
+use Rattle.regions.proofs.RuleLaws.{Placing, place-accepted, Area, area-inside, edit-area, read-area, read-admitted, rectangle-columns, rectangle-rows}
+use Rattle.regions.proofs.Depends.{box-same}
 use Rattle.regions.proofs.OverlapLaws.{InRectangle, overlaps-apart}
 use Rattle.history.specs.Program.{Call, place, edit, read, State, answerTo, elementsAfter, stateAfter, runTo}
-use Rattle.history.proofs.TensorLaws.{tabulate-ext}
 use Rattle.history.proofs.Simulation.{placed-layout, placed-slots}
 
 -- the placed rectangles are in the cube, and no two have a position in common
@@ -53,7 +53,7 @@ unfolding slotsOf slotOf emptySlots
 apart-empty q p =
     record {
       inside = λ n g e. absurd (let z : _≡_ {A = ℕ} 0 1 = cc (slot-empty n) in let f : ⊥ = omega arith in f);
-      apart = λ n m d f g e i w h a b. let z : _≡_ {A = ℕ} 0 1 = cc (slot-empty n) in omega arith
+      apart = λ n m d f g e i w h a b. let z : _≡_ {A = ℕ} 0 1 = cc (slot-empty n) in omega arith;
     }
 
 -- ---- one placing: a filled slot is the new one, or was filled before
@@ -70,7 +70,7 @@ apart-placed : (q : CubeLayout) (slots : List Slot) (n : ℕ) (g : Rectangle) �
 apart-placed q slots n g p a =
     record {
       inside = λ k f e. ⊎-elim (λ s. subst (λ (r : Rectangle). rectangleInside q r ≡ true) (sym (s .1)) (p .inside)) (λ i. a .inside k f i) (set-cases slots n k g f e);
-      apart = λ k m d f r ef er w h hf hr. both k m d f r w h hf hr (set-cases slots n k g f ef) (set-cases slots n m g r er)
+      apart = λ k m d f r ef er w h hf hr. both k m d f r w h hf hr (set-cases slots n k g f ef) (set-cases slots n m g r er);
     }
   where
     both : (k m : ℕ) → k ≢ m → (f r : Rectangle) (w h : ℕ) → InRectangle f w h → InRectangle r w h → ((k ≡ n) × (f ≡ g)) ⊎ (slotAt slots k ≡ filled f) → ((m ≡ n) × (r ≡ g)) ⊎ (slotAt slots m ≡ filled r) → ⊥
@@ -179,7 +179,7 @@ in-rectangle q g b e c h w i =
       column-ge = omega (arith, i .column-ge);
       column-lt = omega (arith, i .column-lt, cs .fit);
       row-ge = omega (arith, i .row-ge);
-      row-lt = omega (arith, i .row-lt, rs .fit)
+      row-lt = omega (arith, i .row-lt, rs .fit);
     }
 
 is-filled : (s : Slot) → isFilled s ≡ true → s ≡ filled (rectangleOf s)
@@ -215,15 +215,12 @@ module _ (t : RegionTable) (a : Apart (t .layout) (slotsOf t)) (n m : ℕ) (d : 
 
   elements-cases : (v : Answer) → inOrder (readChecks (t .layout) (slotsOf t) m b′ (length ys) (length buf)) ≡ v
       → leaves v (boxElements (t .layout) (cubeBox (rectangleAt (slotsOf t) m) b′) (editBuffer t n b xs buf)) ys ≡ leaves v (boxElements (t .layout) (cubeBox (rectangleAt (slotsOf t) m) b′) buf) ys
-  unfolding leaves boxElements storedElement editBuffer
+  unfolding leaves editBuffer
   elements-cases Accepted r =
       let q = t .layout in
       let box = cubeBox (rectangleAt (slotsOf t) m) b′ in
       let mine = area-inside q (slotsOf t) m b′ (read-area q (slotsOf t) m b′ (length ys) (length buf) r) in
-      tabulate-ext (λ (i : ℕ). storedElement q (editBuffer t n b xs buf) (channelAt box i) (rowAt box i) (columnAt box i)) (λ (i : ℕ). storedElement q buf (channelAt box i) (rowAt box i) (columnAt box i)) (boxCount box)
-      (λ i hi.
-      elementAt-ext (sizeOf q) (editBuffer t n b xs buf) buf (elementPosition q (channelAt box i) (rowAt box i) (columnAt box i)) (elementPosition q (channelAt box i) (rowAt box i) (columnAt box i))
-      (λ k hk. bytes-kept r (editAnswer t n b xs (length buf)) refl (channelAt box i) (rowAt box i) (columnAt box i) k (at-in box i hi (mine .area .rows .some) (mine .area .columns .some)) hk))
+      box-same q box (editBuffer t n b xs buf) buf (λ c h w k i hk. bytes-kept r (editAnswer t n b xs (length buf)) refl c h w k i hk) (mine .area)
   elements-cases (Refused x j) r = refl
 
   pub elements-kept : readElements t m b′ (editBuffer t n b xs buf) ys ≡ readElements t m b′ buf ys

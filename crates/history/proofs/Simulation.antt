@@ -120,7 +120,7 @@ module _ (q : CubeLayout) (before : List ℕ) where
       xs-fits e =
           record {
             fit = λ i h.
-            valueTaken-fits (q .precision) (getD xs i (pos 0)) (valueChecks-taken (q .precision) xs (edit-values q (m .slots) n b xs (length before) e) i h) (sixteen .each i)
+                valueTaken-fits (q .precision) (getD xs i (pos 0)) (valueChecks-taken (q .precision) xs (edit-values q (m .slots) n b xs (length before) e) i h) (sixteen .each i);
           }
 
       edit-fits : (v : Answer) → plainAnswer q (length before) m (edit n b xs) ≡ v → Fitting q (leaves v (putBox q (cubeBox (rectangleAt (m .slots) n) b) xs (m .raw)) (m .raw))
@@ -136,12 +136,12 @@ module _ (q : CubeLayout) (before : List ℕ) where
         record {
           layout = placed-layout (s .table) n g ∙ a .layout;
           slots =
-          placed-slots (s .table) n g
-          ∙ ap (λ (v : Answer). leaves v (set (slotsOf (s .table)) n (filled g)) (slotsOf (s .table))) (same-answer (place n g))
-          ∙ ap (λ (l : List Slot). leaves (plainAnswer q (length before) m (place n g)) (set l n (filled g)) l) (a .slots);
+              placed-slots (s .table) n g
+              ∙ ap (λ (v : Answer). leaves v (set (slotsOf (s .table)) n (filled g)) (slotsOf (s .table))) (same-answer (place n g))
+              ∙ ap (λ (l : List Slot). leaves (plainAnswer q (length before) m (place n g)) (set l n (filled g)) l) (a .slots);
           count = a .count;
           fits = a .fits;
-          bytes = a .bytes
+          bytes = a .bytes;
         }
     agrees-after (edit n b xs) sixteen =
         let v = plainAnswer q (length before) m (edit n b xs) in
@@ -152,11 +152,11 @@ module _ (q : CubeLayout) (before : List ℕ) where
           count = edit-count n b xs sixteen v;
           fits = edit-fits n b xs sixteen v refl;
           bytes =
-          ap (λ (w : Answer). leaves w (edited (s .table .layout) (box-at (slotsOf (s .table))) xs (s .buffer)) (s .buffer)) (same-answer (edit n b xs))
-          ∙ ap (λ (p : CubeLayout). leaves v (edited p (box-at (slotsOf (s .table))) xs (s .buffer)) (s .buffer)) (a .layout)
-          ∙ ap (λ (l : List Slot). leaves v (edited q (box-at l) xs (s .buffer)) (s .buffer)) (a .slots)
-          ∙ ap (λ (y : List ℕ). leaves v (edited q (box-at (m .slots)) xs y) y) (a .bytes)
-          ∙ edit-bytes n b xs sixteen v refl
+              ap (λ (w : Answer). leaves w (edited (s .table .layout) (box-at (slotsOf (s .table))) xs (s .buffer)) (s .buffer)) (same-answer (edit n b xs))
+              ∙ ap (λ (p : CubeLayout). leaves v (edited p (box-at (slotsOf (s .table))) xs (s .buffer)) (s .buffer)) (a .layout)
+              ∙ ap (λ (l : List Slot). leaves v (edited q (box-at l) xs (s .buffer)) (s .buffer)) (a .slots)
+              ∙ ap (λ (y : List ℕ). leaves v (edited q (box-at (m .slots)) xs y) y) (a .bytes)
+              ∙ edit-bytes n b xs sixteen v refl;
         }
     agrees-after (read n b xs) sixteen = a
 

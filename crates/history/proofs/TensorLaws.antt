@@ -16,7 +16,7 @@ use lib.Signed.{mag}
 use Rattle.elements.specs.Bytes.{byteOf}
 use Rattle.elements.specs.Lists.{remade, tabulate}
 use Rattle.elements.proofs.ListLaws.{length-remade, getD-remade}
-use Rattle.elements.proofs.TabulateLaws.{length-tabulate, getD-tabulate}
+use Rattle.elements.proofs.TabulateLaws.{tabulate-ext}
 use Rattle.layout.specs.declared.CubeLayout.{CubeLayout}
 use Rattle.layout.specs.declared.ElementBox.{ElementBox}
 use Rattle.layout.specs.Geometry.{sizeOf, elementCount, rawIndex, cubeExtent}
@@ -104,24 +104,16 @@ unfolding new
 put-fitting q box xs raw count fx fr =
     record {
       fit = λ i h.
-      let hi : i < length raw = subst (λ (n : ℕ). i < n) (put-length q box xs raw) h in
-      let c = channelAt (wholeBox q) i in
-      let y = rowAt (wholeBox q) i in
-      let w = columnAt (wholeBox q) i in
-      subst (λ (z : ℤ). mag z < 256 ^ sizeOf q / 2) (sym (put-entry q box xs raw i hi)) (go c y w i hi (boxHas box c y w) refl)
+          let hi : i < length raw = subst (λ (n : ℕ). i < n) (put-length q box xs raw) h in
+          let c = channelAt (wholeBox q) i in
+          let y = rowAt (wholeBox q) i in
+          let w = columnAt (wholeBox q) i in
+          subst (λ (z : ℤ). mag z < 256 ^ sizeOf q / 2) (sym (put-entry q box xs raw i hi)) (go c y w i hi (boxHas box c y w) refl);
     }
   where
     go : (c y w i : ℕ) → i < length raw → (t : Bool) → boxHas box c y w ≡ t → mag (cond t (getD xs (boxIndex box c y w) (pos 0)) (getD raw i (pos 0))) < 256 ^ sizeOf q / 2
     go c y w i hi true e = fx .fit (boxIndex box c y w) (subst (λ (n : ℕ). boxIndex box c y w < n) (sym count) (boxIndex-lt box c y w (boxHas-in box c y w e)))
     go c y w i hi false e = fr .fit i hi
-
--- two lists given by position that agree at each
-pub tabulate-ext : (f g : ℕ → ℤ) (n : ℕ) → ((i : ℕ) → i < n → f i ≡ g i) → tabulate n f ≡ tabulate n g
-tabulate-ext f g n e =
-    ext-getD (pos 0) (tabulate n f) (tabulate n g) (length-tabulate f n ∙ sym (length-tabulate g n))
-    (λ i h.
-    let hi : i < n = subst (λ (m : ℕ). i < m) (length-tabulate f n) h in
-    getD-tabulate f n i (pos 0) hi ∙ e i hi ∙ sym (getD-tabulate g n i (pos 0) hi))
 
 -- what a box of the packed buffer reads
 pub packed-take : (q : CubeLayout) → Taken q → (box : ElementBox) → BoxTaken q box → (raw : List ℤ) (before : List ℕ) → length raw ≡ elementCount q → Fitting q raw
@@ -130,7 +122,7 @@ unfolding boxElements takeBox
 packed-take q ok box area raw before long fits room =
     let f : ℕ → ℤ = λ (i : ℕ). storedElement q (packed q raw before) (channelAt box i) (rowAt box i) (columnAt box i) in
     let g : ℕ → ℤ = λ (i : ℕ). getD raw (rawIndex q (channelAt box i) (rowAt box i) (columnAt box i)) (pos 0) in
-    tabulate-ext f g (boxCount box)
+    tabulate-ext (pos 0) (boxCount box) f g
     (λ i hi.
     let inb = at-in box i hi (area .rows .some) (area .columns .some) in
     let cube = in-cube q box (channelAt box i) (rowAt box i) (columnAt box i) area inb in

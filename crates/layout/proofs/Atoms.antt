@@ -14,7 +14,8 @@ use borrow.Author.Tests.{lt-ltb, le-leb, ltb-true, leb-true}
 use Rattle.layout.specs.declared.CubeLayout.{CubeLayout}
 use Rattle.layout.specs.Geometry.{surfaces, atomPosition}
 use Rattle.layout.specs.Owners.{Owner, outside, surfaceOf, rowOf, columnOf, byteInAtom, inAtom, atomOwner, owner}
-use Rattle.layout.proofs.Taken.{Taken, and-left, and-right, and-both}
+use Rattle.refusal.proofs.TestLaws.{and-left, and-right, and-both}
+use Rattle.layout.proofs.Taken.{Taken}
 
 module _ (q : CubeLayout) (ok : Taken q) where
   line-pos : 0 < q .line

@@ -1,5 +1,6 @@
 -- Boxes: what an accepted one tells, and the raw order over a box as a numbering of its elements. An index is a number of three digits,
 -- channel, row and column of the box. Assumes nothing.
+--     Span, span-inside, inside-span        a span inside a size
 --     BoxTaken, box-taken, whole-inside     the facts of an accepted box; the whole cube is one
 --     InBox, boxHas-in, in-boxHas           an element of a box, as facts and as a test
 --     boxIndex-lt, boxIndex-inj             its index is one of the box's, and no other element's
@@ -18,14 +19,15 @@ use Rattle.layout.specs.declared.CubeLayout.{CubeLayout}
 use Rattle.layout.specs.declared.ElementBox.{ElementBox}
 use Rattle.layout.specs.Geometry.{elementCount, rawIndex}
 use Rattle.layout.specs.Boxes.{wholeBox, boxCount, spanInside, boxInside, spanHas, boxHas, boxIndex, channelAt, rowAt, columnAt}
-use Rattle.layout.proofs.Taken.{Taken, and-left, and-right, and-both}
+use Rattle.refusal.proofs.TestLaws.{and-left, and-right, and-both}
+use Rattle.layout.proofs.Taken.{Taken}
 
 -- `count` numbers from `first` on, at least one, all below `size`
 pub record Span (first count size : ℕ) : Type 0 where
   pub some : 0 < count
   pub fit : first + count ≤ size
 
-span-inside : (first count size : ℕ) → spanInside first count size ≡ true → Span first count size
+pub span-inside : (first count size : ℕ) → spanInside first count size ≡ true → Span first count size
 unfolding spanInside
 span-inside first count size e =
     record {
@@ -33,7 +35,7 @@ span-inside first count size e =
       fit = leb-true (first + count) size (and-right (leb 1 count) (leb (first + count) size) e);
     }
 
-inside-span : (first count size : ℕ) → Span first count size → spanInside first count size ≡ true
+pub inside-span : (first count size : ℕ) → Span first count size → spanInside first count size ≡ true
 unfolding spanInside
 inside-span first count size s = and-both (le-leb 1 count (s .some)) (le-leb (first + count) size (s .fit))
 

@@ -22,7 +22,7 @@ use Rattle.refusal.specs.declared.Answer.the-variants.{Accepted, Refused}
 use Rattle.refusal.specs.declared.Refusal.{Refusal}
 use Rattle.refusal.specs.declared.Refusal.the-variants.{BufferLength, ElementCount, Bounds}
 use Rattle.refusal.specs.Checks.{require, inOrder}
-use Rattle.refusal.proofs.CheckLaws.{inOrder-nil, inOrder-held, inOrder-rest, inOrder-next, inOrder-stop, inOrder-front, inOrder-back, inOrder-passed, inOrder-refused}
+use Rattle.refusal.proofs.CheckLaws.{inOrder-nil, inOrder-held, inOrder-rest, inOrder-next, inOrder-stop, inOrder-front, inOrder-back, inOrder-passed, inOrder-refused, inOrder-same}
 use Rattle.elements.specs.Values.{valueChecks}
 use Rattle.layout.specs.declared.CubeLayout.{CubeLayout}
 use Rattle.layout.specs.declared.ElementBox.{ElementBox}
@@ -98,15 +98,10 @@ whole-front : (q : CubeLayout) (a : Answer) → inOrder (layoutChecks q) ≡ a �
 whole-front q Accepted e = sym (box-accepted q (wholeBox q) e (whole-inside q (taken q e)))
 whole-front q (Refused r i) e = sym (box-refused q (wholeBox q) e)
 
--- two lists of checks with one answer, followed by the same checks
-same-front : (xs ys zs : List Answer) (a : Answer) → inOrder xs ≡ a → inOrder ys ≡ a → inOrder (xs ++ zs) ≡ inOrder (ys ++ zs)
-same-front xs ys zs Accepted p q = inOrder-passed xs zs p ∙ sym (inOrder-passed ys zs q)
-same-front xs ys zs (Refused r i) p q = inOrder-refused xs zs p ∙ sym (inOrder-refused ys zs q)
-
 pub admit-whole : (q : CubeLayout) (given len : ℕ) → inOrder (admitChecks q (wholeBox q) given len) ≡ inOrder (cubeChecks q given len)
 unfolding admitChecks cubeChecks
 admit-whole q given len =
-    same-front (boxChecks q (wholeBox q)) (layoutChecks q) (storageChecks q (boxCount (wholeBox q)) given len) (inOrder (layoutChecks q))
+    inOrder-same (boxChecks q (wholeBox q)) (layoutChecks q) (storageChecks q (boxCount (wholeBox q)) given len) (inOrder (layoutChecks q))
     (whole-front q (inOrder (layoutChecks q)) refl)
     refl
     ∙ ap (λ (n : ℕ). inOrder (layoutChecks q ++ storageChecks q n given len)) (whole-count q)
@@ -182,7 +177,7 @@ module _ (q : CubeLayout) (box : ElementBox) (xs : List ℤ) (len : ℕ) where
 pub pack-whole : (q : CubeLayout) (raw : List ℤ) (len : ℕ) → packAnswer q raw len ≡ writeBoxAnswer q (wholeBox q) raw len
 unfolding packAnswer writeBoxAnswer
 pack-whole q raw len =
-    sym (same-front (admitChecks q (wholeBox q) (length raw) len) (cubeChecks q (length raw) len) (valueChecks (q .precision) raw) (inOrder (cubeChecks q (length raw) len)) (admit-whole q (length raw) len) refl)
+    sym (inOrder-same (admitChecks q (wholeBox q) (length raw) len) (cubeChecks q (length raw) len) (valueChecks (q .precision) raw) (inOrder (cubeChecks q (length raw) len)) (admit-whole q (length raw) len) refl)
 
 -- and unpacking as reading it
 pub unpack-whole : (q : CubeLayout) (given len : ℕ) → unpackAnswer q given len ≡ readBoxAnswer q (wholeBox q) given len

@@ -22,7 +22,7 @@ use Rattle.layout.specs.declared.CubeLayout.{CubeLayout}
 use Rattle.layout.specs.declared.ElementBox.{ElementBox}
 use Rattle.layout.specs.Boxes.{spanInside, boxInside}
 use Rattle.layout.specs.Rules.{sizeTaken, sizesTaken, wholeAtoms, stridesTaken, layoutChecks}
-use Rattle.layout.proofs.Taken.{and-left, and-right}
+use Rattle.refusal.proofs.TestLaws.{and-left, and-right}
 
 pub size-small : (n : ℕ) → n < 1 → false ≡ sizeTaken n
 unfolding sizeTaken

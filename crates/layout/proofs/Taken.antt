@@ -1,5 +1,4 @@
 -- What an accepted layout tells: the facts behind checks 1 to 4. By taking the checks' tests apart. Assumes nothing.
---     and-left, and-right, and-both     both halves of a test that holds
 --     Taken, taken                      the facts of an accepted layout
 use Prim.Native.Nat.{ℕ, _+_, _-_, _*_, _%_, _≤_, _<_}
 use mathlib.Core.Path.{_≡_, refl, sym, ap, _∙_}
@@ -12,19 +11,9 @@ use Rattle.refusal.specs.declared.Answer.the-variants.{Accepted}
 use Rattle.refusal.specs.declared.Refusal.the-variants.{Size, Precision, CubeStrides, CubeStart}
 use Rattle.refusal.specs.Checks.{inOrder, require}
 use Rattle.refusal.proofs.CheckLaws.{inOrder-held, inOrder-rest}
+use Rattle.refusal.proofs.TestLaws.{and-left, and-right}
 use Rattle.layout.specs.declared.CubeLayout.{CubeLayout}
 use Rattle.layout.specs.Rules.{sizeTaken, sizesTaken, wholeAtoms, stridesTaken, layoutChecks}
-
-pub and-left : (a b : Bool) → (a && b) ≡ true → a ≡ true
-and-left true b e = refl
-and-left false b e = e
-
-pub and-right : (a b : Bool) → (a && b) ≡ true → b ≡ true
-and-right true b e = e
-and-right false b e = cc
-
-pub and-both : {a b : Bool} → a ≡ true → b ≡ true → (a && b) ≡ true
-and-both p q = rw (p, q)
 
 pub record Taken (q : CubeLayout) : Type 0 where
   pub width-pos : 0 < q .width

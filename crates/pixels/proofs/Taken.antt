@@ -10,6 +10,7 @@ use borrow.Author.Tests.{leb-true, eqb-true, le-leb, eq-eqb}
 use Rattle.refusal.specs.declared.Answer.the-variants.{Accepted}
 use Rattle.refusal.specs.declared.Refusal.the-variants.{Size, PixelFormat as FormatCode, PixelKind, XOffset, PixelStrides}
 use Rattle.refusal.proofs.CheckLaws.{inOrder-held, inOrder-rest}
+use Rattle.refusal.proofs.TestLaws.{and-left, and-right}
 use Rattle.pixels.specs.declared.PixelSetting.{PixelSetting}
 use Rattle.pixels.specs.Formats.{formatOf}
 use Rattle.pixels.specs.Settings.{pixelBytes, sizeTaken, kindTaken, stridesTaken, settingChecks, settingAnswer}
@@ -31,14 +32,6 @@ pub record Taken (q : PixelSetting) : Type 0 where
   pub start-whole : q .start % 32 ≡ 0
   pub line-whole : q .line % 32 ≡ 0
   pub room : (q .offset + q .width) * pixelBytes q ≤ q .line
-
-and-left : (a b : Bool) → a && b ≡ true → a ≡ true
-and-left true b e = refl
-and-left false b e = e
-
-and-right : (a b : Bool) → a && b ≡ true → b ≡ true
-and-right true b e = e
-and-right false b e = cc
 
 size-taken : (n : ℕ) → sizeTaken n ≡ true → SizeTaken n
 unfolding sizeTaken

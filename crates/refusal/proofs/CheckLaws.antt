@@ -2,6 +2,7 @@
 --     requireAt-true, requireAt-false     what one check answers
 --     inOrder-next, inOrder-stop          the first check of a list held, or failed
 --     inOrder-passed, inOrder-refused     the first part of a list passed, or was refused
+--     inOrder-same                        two first parts with one answer
 --     inOrder-held, inOrder-rest          an accepted list: its first check held, and the rest is accepted
 --     leaves-done, leaves-before          what a call leaves, by its answer
 --     quantity-is, quantity-denied        the number that a call gives, by its answer
@@ -72,6 +73,11 @@ inOrder-front (Refused r i ∷ xs) ys e = e
 
 pub inOrder-back : (xs ys : List Answer) → inOrder (xs ++ ys) ≡ Accepted → inOrder ys ≡ Accepted
 inOrder-back xs ys e = sym (inOrder-passed xs ys (inOrder-front xs ys e)) ∙ e
+
+-- two lists of checks with one answer, followed by the same checks
+pub inOrder-same : (xs ys zs : List Answer) (a : Answer) → inOrder xs ≡ a → inOrder ys ≡ a → inOrder (xs ++ zs) ≡ inOrder (ys ++ zs)
+inOrder-same xs ys zs Accepted p q = inOrder-passed xs zs p ∙ sym (inOrder-passed ys zs q)
+inOrder-same xs ys zs (Refused r i) p q = inOrder-refused xs zs p ∙ sym (inOrder-refused ys zs q)
 
 pub leaves-done : {A : Type 0} {a : Answer} (done before : A) → a ≡ Accepted → leaves a done before ≡ done
 unfolding leaves

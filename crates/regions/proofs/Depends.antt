@@ -1,5 +1,6 @@
 -- What a read depends on (scope paper, "Stalls"): the layout, the named slot, the box, the two lengths and the bytes of the box's elements. Two
 -- reads that agree on these answer the same and, accepted, give the same elements. Element by element. Assumes nothing.
+--     box-same                        the elements of a box depend on their bytes alone
 --     SameRead                        two reads agree
 --     same-answer, same-elements      they answer the same, and give the same elements
 use Prim.Native.Nat.{ℕ, _+_, _<_}
@@ -7,7 +8,6 @@ use mathlib.Core.Path.{_≡_, refl, sym, ap, _∙_, subst}
 use mathlib.Core.Bool.{_&&_}
 use mathlib.Core.List.{List, [], _∷_, _++_}
 use lib.ListN.{length, getD}
-use lib.Seq.{ext-getD}
 use lib.Dec.{ltb}
 use lib.IntN.{ℤ, pos}
 use Rattle.refusal.specs.declared.Answer.{Answer}
@@ -15,9 +15,8 @@ use Rattle.refusal.specs.declared.Answer.the-variants.{Accepted}
 use Rattle.refusal.specs.declared.Refusal.the-variants.{Slot as SlotRefusal, Bounds}
 use Rattle.refusal.specs.Checks.{require, inOrder}
 use Rattle.refusal.proofs.CheckLaws.{leaves-done}
-use Rattle.elements.specs.Lists.{tabulate}
 use Rattle.elements.proofs.ByteLaws.{elementAt-ext}
-use Rattle.elements.proofs.TabulateLaws.{length-tabulate, getD-tabulate}
+use Rattle.elements.proofs.TabulateLaws.{tabulate-ext}
 use Rattle.layout.specs.declared.CubeLayout.{CubeLayout}
 use Rattle.layout.specs.declared.ElementBox.{ElementBox}
 use Rattle.layout.specs.Geometry.{sizeOf, elementPosition}
@@ -33,11 +32,6 @@ use Rattle.regions.proofs.RuleLaws.{area-inside, read-area}
 
 -- ---- the elements of a box, from its elements' bytes alone
 
-tabulate-ext : (n : ℕ) (f g : ℕ → ℤ) → ((i : ℕ) → i < n → f i ≡ g i) → tabulate n f ≡ tabulate n g
-tabulate-ext n f g h =
-    ext-getD (pos 0) (tabulate n f) (tabulate n g) (length-tabulate f n ∙ sym (length-tabulate g n))
-    (λ i k. let l : i < n = subst (λ (m : ℕ). i < m) (length-tabulate f n) k in getD-tabulate f n i (pos 0) l ∙ h i l ∙ sym (getD-tabulate g n i (pos 0) l))
-
 module _ (q : CubeLayout) (box : ElementBox) (buffer buffer′ : List ℕ)
     (bytes : (c h w k : ℕ) → InBox box c h w → k < sizeOf q → getD buffer (elementPosition q c h w + k) 0 ≡ getD buffer′ (elementPosition q c h w + k) 0) where
   stored-same : (c h w : ℕ) → InBox box c h w → storedElement q buffer c h w ≡ storedElement q buffer′ c h w
@@ -47,7 +41,7 @@ module _ (q : CubeLayout) (box : ElementBox) (buffer buffer′ : List ℕ)
   pub box-same : BoxTaken q box → boxElements q box buffer ≡ boxElements q box buffer′
   unfolding boxElements
   box-same t =
-      tabulate-ext (boxCount box)
+      tabulate-ext (pos 0) (boxCount box)
       (λ (i : ℕ). storedElement q buffer (channelAt box i) (rowAt box i) (columnAt box i))
       (λ (i : ℕ). storedElement q buffer′ (channelAt box i) (rowAt box i) (columnAt box i))
       (λ i l. stored-same (channelAt box i) (rowAt box i) (columnAt box i) (at-in box i l (t .rows .some) (t .columns .some)))

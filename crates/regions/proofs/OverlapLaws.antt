@@ -18,7 +18,7 @@ use lib.ListN.{length, getD, List·getD-eq-default}
 use lib.Dec.{leb, ltb}
 use borrow.Author.Tests.{le-leb, lt-leb, leb-true, lt-ltb, le-ltb, ltb-true}
 use Rattle.layout.specs.Boxes.{spanHas}
-use Rattle.layout.proofs.Taken.{and-left, and-right, and-both}
+use Rattle.refusal.proofs.TestLaws.{and-left, and-right, and-both}
 use Rattle.regions.specs.Slots.{Rectangle, Slot, empty, filled, rectangleHas, taken, anyFrom, overlaps}
 use Rattle.regions.specs.Rules.{slotAt}
 use Rattle.regions.specs.Steps.{spansMeet, slotMeets}

@@ -1,6 +1,5 @@
 -- The orders of checks: what an accepted call tells, and that the checks which writing or reading the cube's box repeats never refuse. By taking
 -- the lists of checks apart. Assumes nothing.
---     span-inside, inside-span            a span, as a test and as facts
 --     rectangle-columns, rectangle-rows   the spans of a rectangle in the cube
 --     cube-count                          a box has as many elements in the cube as in its rectangle
 --     cube-area                           a box in a rectangle in the cube is in the cube
@@ -22,32 +21,21 @@ use Rattle.refusal.specs.declared.Answer.{Answer}
 use Rattle.refusal.specs.declared.Answer.the-variants.{Accepted, Refused}
 use Rattle.refusal.specs.declared.Refusal.the-variants.{Slot as SlotRefusal, Bounds, Overlap}
 use Rattle.refusal.specs.Checks.{require, inOrder}
-use Rattle.refusal.proofs.CheckLaws.{inOrder-held, inOrder-rest, inOrder-front, inOrder-back, inOrder-passed, inOrder-refused}
+use Rattle.refusal.proofs.CheckLaws.{inOrder-held, inOrder-rest, inOrder-front, inOrder-back, inOrder-passed, inOrder-same}
 use Rattle.elements.specs.Values.{valueChecks}
 use Rattle.layout.specs.declared.CubeLayout.{CubeLayout}
 use Rattle.layout.specs.declared.ElementBox.{ElementBox}
 use Rattle.layout.specs.Boxes.{spanInside, boxCount}
 use Rattle.layout.specs.Rules.{layoutChecks, boxChecks, storageChecks, admitChecks}
 use Rattle.layout.specs.Calls.{readBoxAnswer, writeBoxAnswer}
-use Rattle.layout.proofs.Taken.{Taken, taken, and-left, and-right, and-both}
-use Rattle.layout.proofs.BoxLaws.{Span, BoxTaken, taken-box}
+use Rattle.refusal.proofs.TestLaws.{and-left, and-right, and-both}
+use Rattle.layout.proofs.Taken.{Taken, taken}
+use Rattle.layout.proofs.BoxLaws.{Span, span-inside, inside-span, BoxTaken, taken-box}
 use Rattle.layout.proofs.CallLaws.{Admitted, admitted, box-accepted}
 use Rattle.regions.specs.Slots.{Rectangle, Slot, rectangleInside, overlaps}
 use Rattle.regions.specs.Rules.{slotAt, isFilled, rectangleAt, placeChecks, boxInRectangle, cubeBox, areaChecks, readChecks, editChecks}
 
--- ---- spans and rectangles
-
-pub span-inside : (first count size : ℕ) → spanInside first count size ≡ true → Span first count size
-unfolding spanInside
-span-inside first count size e =
-    record {
-      some = leb-true 1 count (and-left (leb 1 count) (leb (first + count) size) e);
-      fit = leb-true (first + count) size (and-right (leb 1 count) (leb (first + count) size) e);
-    }
-
-pub inside-span : (first count size : ℕ) → Span first count size → spanInside first count size ≡ true
-unfolding spanInside
-inside-span first count size s = and-both (le-leb 1 count (s .some)) (le-leb (first + count) size (s .fit))
+-- ---- rectangles
 
 module _ (q : CubeLayout) (g : Rectangle) where
   pub rectangle-columns : rectangleInside q g ≡ true → Span (g .column) (g .columns) (q .width)
@@ -173,17 +161,12 @@ module _ (q : CubeLayout) (slots : List Slot) (n : ℕ) (b : ElementBox) (xs : L
   pub edit-admitted : inOrder (editChecks q slots n b xs len) ≡ Accepted → Admitted q (cubeBox (rectangleAt slots n) b) (length xs) len
   edit-admitted e = read-admitted q slots n b (length xs) len (edit-read e)
 
--- two lists of checks with one answer, followed by the same checks
-same-front : (xs ys zs : List Answer) (a : Answer) → inOrder xs ≡ a → inOrder ys ≡ a → inOrder (xs ++ zs) ≡ inOrder (ys ++ zs)
-same-front xs ys zs Accepted p q = inOrder-passed xs zs p ∙ sym (inOrder-passed ys zs q)
-same-front xs ys zs (Refused r i) p q = inOrder-refused xs zs p ∙ sym (inOrder-refused ys zs q)
-
 module _ (q : CubeLayout) (slots : List Slot) (n : ℕ) (b : ElementBox) (xs : List ℤ) (len : ℕ) where
   pub edit-box : inOrder (areaChecks q slots n b) ≡ Accepted → writeBoxAnswer q (cubeBox (rectangleAt slots n) b) xs len ≡ inOrder (editChecks q slots n b xs len)
   unfolding writeBoxAnswer editChecks
   edit-box ok =
       let box = cubeBox (rectangleAt slots n) b in
-      same-front (admitChecks q box (length xs) len) (readChecks q slots n b (length xs) len) (valueChecks (q .precision) xs)
+      inOrder-same (admitChecks q box (length xs) len) (readChecks q slots n b (length xs) len) (valueChecks (q .precision) xs)
       (inOrder (readChecks q slots n b (length xs) len)) (admit-same q slots n b (length xs) len ok) refl
 
 -- ---- place

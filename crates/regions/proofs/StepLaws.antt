@@ -25,7 +25,7 @@ use Rattle.layout.specs.declared.CubeLayout.{CubeLayout}
 use Rattle.layout.specs.declared.ElementBox.{ElementBox}
 use Rattle.layout.specs.Boxes.{spanInside}
 use Rattle.layout.specs.Rules.{layoutChecks}
-use Rattle.layout.proofs.Taken.{and-right}
+use Rattle.refusal.proofs.TestLaws.{and-right}
 use Rattle.layout.proofs.RuleLaws.{span-some}
 use Rattle.regions.specs.declared.Region.{Region}
 use Rattle.regions.specs.declared.RegionTable.{RegionTable}

@@ -1,22 +1,14 @@
 -- What accepted sizes tell: the facts behind check 1, which are all that the laws of places need, whatever the precision code. By taking the
 -- check's tests apart. Assumes nothing.
---     and-left, and-right     both halves of a test that holds
 --     Taken, taken            the facts of a layout that check 1 takes
 use Prim.Native.Nat.{ℕ, _≤_, _<_}
 use mathlib.Core.Path.{_≡_, refl}
 use mathlib.Core.Bool.{Bool, true, false, _&&_}
 use lib.Dec.{leb}
 use borrow.Author.Tests.{leb-true}
+use Rattle.refusal.proofs.TestLaws.{and-left, and-right}
 use Rattle.weights.specs.declared.WeightLayout.{WeightLayout}
 use Rattle.weights.specs.Rules.{sizeTaken, sizesTaken}
-
-pub and-left : (a b : Bool) → (a && b) ≡ true → a ≡ true
-and-left true b e = refl
-and-left false b e = e
-
-pub and-right : (a b : Bool) → (a && b) ≡ true → b ≡ true
-and-right true b e = e
-and-right false b e = cc
 
 -- a size is 1 to `most`
 pub record Within (most n : ℕ) : Type 0 where

@@ -6,7 +6,7 @@ use borrow.Author.Tests.{not-true, not-false, ltb-true}
 use Rattle.refusal.specs.declared.Answer.the-variants.{Accepted}
 use Rattle.refusal.specs.Checks.{inOrder}
 use Rattle.layout.specs.Rules.{layoutChecks}
-use Rattle.layout.proofs.Taken.{and-left}
+use Rattle.refusal.proofs.TestLaws.{and-left}
 use Rattle.regions.specs.Slots.{Rectangle, slotsOf, rectangleInside}
 use Rattle.regions.specs.Rules.{slotAt, isFilled, rectangleAt, boxInRectangle}
 use Rattle.regions.proofs.StepLaws.{rectangle-at, area-layout-refused, area-unfilled, area-outside, area-beyond, area-taken}
