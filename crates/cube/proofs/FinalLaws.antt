@@ -2,11 +2,11 @@
 --     written, was-read, packed-whole, unpacked-whole     accepted calls
 --     write-kept, read-kept, pack-kept, unpack-kept       refused calls
 --     padding-first, padding-some, padding-none           where the last surface begins; clearing it, or not
-use Prim.Native.Nat.{ℕ, _+_, _-_, _*_, _/_, _%_, _≤_, _<_}
+use Prim.Native.Nat.{ℕ, _+_, _-_, _*_, _/_, _%_, _≤_}
 use native.Mathlib.Omega.{arith}
-use mathlib.Core.Path.{_≡_, refl, sym, ap, _∙_, subst}
+use mathlib.Core.Path.{_≡_, sym, ap, _∙_, subst}
 use mathlib.Core.List.{List}
-use lib.ListN.{length, getD}
+use lib.ListN.{length}
 use lib.IntN.{ℤ}
 use borrow.Author.Tests.{eq-eqb, ne-eqb}
 use Rattle.refusal.specs.declared.Refusal.{Refusal}
@@ -18,10 +18,8 @@ use Rattle.layout.specs.declared.ElementBox.{ElementBox}
 use Rattle.layout.specs.Geometry.{sizeOf, surfaces, atomPosition, cubeExtent}
 use Rattle.layout.specs.Boxes.{wholeBox}
 use Rattle.layout.specs.Contents.{packed, edited, boxElements, unpacked}
-use Rattle.layout.specs.Calls.{packAnswer, packBuffer, unpackAnswer, unpackElements, writeBoxAnswer, writeBoxBuffer, readBoxAnswer, readBoxElements}
-use Rattle.layout.proofs.Taken.{Taken}
+use Rattle.layout.specs.Calls.{packBuffer, unpackElements, writeBoxAnswer, writeBoxBuffer, readBoxAnswer, readBoxElements}
 use Rattle.layout.proofs.ContentLaws.{packed-by-edit}
-use Rattle.layout.proofs.Extents.{surfaces-pos}
 use Rattle.layout.proofs.CallLaws.{Admitted, admitted, write-admitted, pack-whole, unpack-whole}
 use Rattle.cube.specs.Steps.{rowsStored, rowsRead, linesCleared, surfaceCleared, wiped}
 use Rattle.cube.proofs.WriteLaws.{rows-stored}

@@ -7,7 +7,7 @@ use native.Mathlib.Omega.{arith}
 use native.Mathlib.Numerals.{add-one}
 use native.Mathlib.Nat.{eq-or-lt-of-le, le-of-suc-le-suc, not-suc-le-zero}
 use mathlib.Core.Path.{_≡_, refl, sym, ap, _∙_, subst}
-use mathlib.Core.Logic.{_⊎_, ⊎-elim}
+use mathlib.Core.Logic.{⊎-elim}
 use mathlib.Core.List.{List}
 use lib.ListN.{length, getD, set, length-set}
 use lib.Seq.{ext-getD}
@@ -17,10 +17,10 @@ use Rattle.elements.proofs.TabulateLaws.{length-tabulate, getD-tabulate}
 use Rattle.elements.proofs.Toward.{Toward, toward-refl, toward-trans, toward-set, reached-set, reached-kept}
 use Rattle.layout.specs.declared.CubeLayout.{CubeLayout}
 use Rattle.layout.specs.declared.ElementBox.{ElementBox}
-use Rattle.layout.specs.Geometry.{sizeOf, elementPosition}
+use Rattle.layout.specs.Geometry.{sizeOf}
 use Rattle.layout.specs.Boxes.{boxIndex, boxCount, channelAt, rowAt, columnAt}
 use Rattle.layout.specs.Contents.{storedElement, boxElements}
-use Rattle.layout.proofs.BoxLaws.{InBox, index-channel, index-row, index-column, at-in, boxIndex-at}
+use Rattle.layout.proofs.BoxLaws.{index-channel, index-row, index-column, at-in, boxIndex-at}
 use Rattle.cube.specs.Steps.{rowRead, runIndex, runPosition, runRead, channelsRead, rowsRead}
 use Rattle.cube.proofs.RunLaws.{run-in, run-index, run-position, run-index-lt, run-index-end}
 

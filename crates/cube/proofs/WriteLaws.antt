@@ -8,7 +8,7 @@ use native.Mathlib.Omega.{arith}
 use native.Mathlib.Numerals.{add-one}
 use native.Mathlib.Nat.{add-zero, eq-or-lt-of-le, le-of-suc-le-suc, not-suc-le-zero}
 use mathlib.Core.Path.{_≡_, refl, sym, ap, _∙_, subst}
-use mathlib.Core.Logic.{_⊎_, ⊎-elim}
+use mathlib.Core.Logic.{⊎-elim}
 use mathlib.Core.List.{List}
 use lib.ListN.{length, getD, set, length-set}
 use lib.IntN.{ℤ, pos}
@@ -17,7 +17,6 @@ use Rattle.elements.proofs.Toward.{Toward, toward-refl, toward-trans, toward-se
 use Rattle.layout.specs.declared.CubeLayout.{CubeLayout}
 use Rattle.layout.specs.declared.ElementBox.{ElementBox}
 use Rattle.layout.specs.Geometry.{sizeOf, elementPosition, cubeExtent}
-use Rattle.layout.specs.Boxes.{boxIndex}
 use Rattle.layout.specs.Contents.{edited}
 use Rattle.layout.proofs.Taken.{Taken}
 use Rattle.layout.proofs.BoxLaws.{BoxTaken, InBox}

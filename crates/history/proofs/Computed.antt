@@ -1,9 +1,9 @@
 -- The example's list, computed: its packing is accepted, and the answers, the elements read and the bytes changed are these. Assumes nothing.
 use Prim.Native.Nat.{ℕ}
 use mathlib.Core.Path.{_≡_, refl}
-use mathlib.Core.List.{List, [], _∷_, map}
+use mathlib.Core.List.{[], _∷_, map}
 use lib.ListN.{length, getD}
-use lib.IntN.{ℤ, pos, negsuc}
+use lib.IntN.{pos, negsuc}
 use Rattle.refusal.specs.declared.Answer.the-variants.{Accepted}
 use Rattle.refusal.specs.Codes.{answerCode, answerPlace}
 use Rattle.refusal.specs.Checks.{requireAt, inOrder, leaves}

@@ -1,6 +1,6 @@
 -- The statements of Theorem.antt, from the laws of one call: program and model start in step, and the empty table's regions are apart. Assumes nothing.
 use Prim.Native.Nat.{ℕ, _+_, _<_}
-use mathlib.Core.Path.{_≡_, refl, sym, ap, subst, _∙_}
+use mathlib.Core.Path.{_≡_, refl, subst, _∙_}
 use mathlib.Core.Logic.{_≢_}
 use mathlib.Core.Bool.{true}
 use mathlib.Core.List.{List, map}
@@ -11,15 +11,14 @@ use Rattle.refusal.proofs.CheckLaws.{leaves-done}
 use Rattle.layout.specs.declared.CubeLayout.{CubeLayout}
 use Rattle.layout.specs.declared.ElementBox.{ElementBox}
 use Rattle.layout.specs.Geometry.{sizeOf, elementPosition}
-use Rattle.layout.specs.Boxes.{boxHas, wholeBox}
+use Rattle.layout.specs.Boxes.{boxHas}
 use Rattle.layout.specs.Contents.{packed}
 use Rattle.layout.specs.Calls.{packAnswer, packBuffer}
 use Rattle.layout.proofs.BoxLaws.{in-boxHas, whole-count}
 use Rattle.layout.proofs.CallLaws.{pack-admitted}
 use Rattle.layout.proofs.RoundTrip.{packed-fits}
-use Rattle.regions.specs.Slots.{Rectangle, Slot, filled, slotOf, slotsOf, emptySlots, rectangleHas}
+use Rattle.regions.specs.Slots.{Rectangle, filled, slotOf, slotsOf, emptySlots, rectangleHas}
 use Rattle.regions.specs.Rules.{slotAt, rectangleAt, cubeBox}
-use Rattle.regions.specs.Calls.{emptyTable, editBuffer}
 use Rattle.regions.proofs.OverlapLaws.{has-in}
 use Rattle.history.specs.Program.{Call, edit, read, SixteenBit, LendsSixteenBit, State, answerTo, elementsAfter, stateAfter, runTo, program, started}
 use Rattle.history.specs.Model.{model, shown, given}

@@ -9,11 +9,11 @@ use native.Mathlib.Omega.{arith}
 use native.Mathlib.Decide.{ℕ-discrete, decLt}
 use mathlib.Core.Path.{_≡_, refl, sym, ap, _∙_, subst}
 use mathlib.Core.Logic.{_≢_, _⊎_, inl, inr, ⊎-elim}
-use mathlib.Core.Bool.{Bool, true, false, _&&_}
+use mathlib.Core.Bool.{true, _&&_}
 use mathlib.Core.List.{List, [], _∷_}
 use lib.ListN.{length, getD, set, replicate, getD-replicate, length-replicate, List·getD-eq-default}
 use lib.Seq.{getD-set-same, getD-set-other, set-out}
-use lib.IntN.{ℤ, pos}
+use lib.IntN.{ℤ}
 use Rattle.refusal.specs.declared.Answer.{Answer}
 use Rattle.refusal.specs.declared.Answer.the-variants.{Accepted, Refused}
 use Rattle.refusal.specs.Checks.{inOrder, leaves}
@@ -24,17 +24,17 @@ use Rattle.layout.specs.Boxes.{spanInside}
 use Rattle.layout.specs.Contents.{edited, boxElements}
 use Rattle.refusal.proofs.TestLaws.{and-left, and-right}
 use Rattle.layout.proofs.Taken.{Taken}
-use Rattle.layout.proofs.BoxLaws.{Span, BoxTaken, InBox, InCube, in-cube, span-inside}
+use Rattle.layout.proofs.BoxLaws.{Span, InBox, InCube, in-cube, span-inside}
 use Rattle.layout.proofs.ContentLaws.{edited-kept, edited-length}
 use Rattle.layout.proofs.Places.{element-own}
 use Rattle.regions.specs.declared.RegionTable.{RegionTable}
 use Rattle.regions.specs.Slots.{Rectangle, Slot, empty, filled, slotOf, slotsOf, emptySlots, rectangleInside}
 use Rattle.regions.specs.Rules.{slotAt, isFilled, rectangleOf, rectangleAt, boxInRectangle, cubeBox, placeChecks, editChecks, readChecks}
 use Rattle.regions.specs.Calls.{emptyTable, placeAnswer, placeTable, editAnswer, editBuffer, readAnswer, readElements}
-use Rattle.regions.proofs.RuleLaws.{Placing, place-accepted, Area, area-inside, edit-area, read-area, read-admitted, rectangle-columns, rectangle-rows}
+use Rattle.regions.proofs.RuleLaws.{Placing, place-accepted, area-inside, edit-area, read-area, rectangle-columns, rectangle-rows}
 use Rattle.regions.proofs.Depends.{box-same}
 use Rattle.regions.proofs.OverlapLaws.{InRectangle, overlaps-apart}
-use Rattle.history.specs.Program.{Call, place, edit, read, State, answerTo, elementsAfter, stateAfter, runTo}
+use Rattle.history.specs.Program.{Call, place, edit, read, State, stateAfter, runTo}
 use Rattle.history.proofs.Simulation.{placed-layout, placed-slots}
 
 -- the placed rectangles are in the cube, and no two have a position in common

@@ -3,32 +3,27 @@
 --     Agrees          program and model in step
 --     same-answer, same-elements, agrees-after     one call
 --     same-list       every list of calls
-use Prim.Native.Nat.{ℕ, zero, suc, _+_, _≤_, _<_}
-use native.Mathlib.Omega.{arith}
-use mathlib.Core.Path.{_≡_, refl, sym, ap, _∙_, subst}
-use mathlib.Core.Bool.{true, cond}
+use Prim.Native.Nat.{ℕ, zero, suc}
+use mathlib.Core.Path.{_≡_, refl, sym, ap, _∙_}
 use mathlib.Core.List.{List, [], _∷_, map}
-use lib.ListN.{length, getD, set, length-set}
+use lib.ListN.{length, getD, set}
 use lib.IntN.{ℤ, pos}
-use lib.Signed.{mag}
 use Rattle.refusal.specs.declared.Answer.{Answer}
 use Rattle.refusal.specs.declared.Answer.the-variants.{Accepted, Refused}
 use Rattle.refusal.specs.Checks.{inOrder, leaves}
-use Rattle.refusal.proofs.CheckLaws.{leaves-done, leaves-before}
 use Rattle.elements.proofs.ValueLaws.{valueTaken-fits, valueChecks-taken}
 use Rattle.layout.specs.declared.CubeLayout.{CubeLayout}
 use Rattle.layout.specs.declared.ElementBox.{ElementBox}
-use Rattle.layout.specs.Geometry.{elementCount, cubeExtent}
+use Rattle.layout.specs.Geometry.{elementCount}
 use Rattle.layout.specs.Contents.{packed, edited, boxElements}
 use Rattle.layout.proofs.ContentLaws.{packed-length}
-use Rattle.regions.specs.declared.Region.{Region}
 use Rattle.regions.specs.declared.RegionTable.{RegionTable}
 use Rattle.regions.specs.Slots.{Rectangle, Slot, filled, slotOf, slotsOf}
 use Rattle.regions.specs.Rules.{placeChecks, readChecks, editChecks, rectangleAt, cubeBox}
 use Rattle.regions.specs.Calls.{placedRegion, placeAnswer, placeTable, editAnswer, editBuffer, readAnswer, readElements}
 use Rattle.regions.proofs.RuleLaws.{edit-admitted, edit-values, read-admitted}
-use Rattle.history.specs.Program.{Call, place, edit, read, lends, SixteenBit, LendsSixteenBit, State, Shown, answerTo, elementsAfter, stateAfter, program}
-use Rattle.history.specs.Model.{putBox, takeBox, Plain, Given, plainAnswer, plainElements, plainAfter, model, shown}
+use Rattle.history.specs.Program.{Call, place, edit, read, lends, SixteenBit, LendsSixteenBit, State, answerTo, elementsAfter, stateAfter, program}
+use Rattle.history.specs.Model.{putBox, takeBox, Plain, plainAnswer, plainElements, plainAfter, model, shown}
 use Rattle.history.proofs.TensorLaws.{put-length, packed-put, Fitting, put-fitting, packed-take}
 
 -- ---- the table after a placing

@@ -4,8 +4,7 @@
 --     packed-put             the commuting law
 --     Fitting, put-fitting   every element fits its bytes
 --     packed-take            what a box of the packed buffer reads
-use Prim.Native.Nat.{ℕ, _+_, _*_, _/_, _^_, _≤_, _<_}
-use native.Mathlib.Omega.{arith}
+use Prim.Native.Nat.{ℕ, _+_, _/_, _^_, _≤_, _<_}
 use mathlib.Core.Path.{_≡_, refl, sym, ap, _∙_, subst}
 use mathlib.Core.Bool.{Bool, true, false, cond}
 use mathlib.Core.List.{List}
@@ -14,18 +13,17 @@ use lib.Seq.{ext-getD}
 use lib.IntN.{ℤ, pos}
 use lib.Signed.{mag}
 use Rattle.elements.specs.Bytes.{byteOf}
-use Rattle.elements.specs.Lists.{remade, tabulate}
 use Rattle.elements.proofs.ListLaws.{length-remade, getD-remade}
 use Rattle.elements.proofs.TabulateLaws.{tabulate-ext}
 use Rattle.layout.specs.declared.CubeLayout.{CubeLayout}
 use Rattle.layout.specs.declared.ElementBox.{ElementBox}
 use Rattle.layout.specs.Geometry.{sizeOf, elementCount, rawIndex, cubeExtent}
 use Rattle.layout.specs.Boxes.{wholeBox, boxCount, boxHas, boxIndex, channelAt, rowAt, columnAt}
-use Rattle.layout.specs.Owners.{Owner, element, padding, outside, owner}
+use Rattle.layout.specs.Owners.{Owner, owner}
 use Rattle.layout.specs.Contents.{packedByte, packed, editedByte, edited, storedElement, boxElements}
 use Rattle.layout.proofs.Taken.{Taken}
 use Rattle.layout.proofs.Views.{View, is-element, is-padding, is-outside, see}
-use Rattle.layout.proofs.BoxLaws.{BoxTaken, InBox, InCube, in-cube, boxHas-in, boxIndex-lt, index-channel, index-row, index-column, at-in, boxIndex-at, whole-count, whole-index, whole-in, whole-taken}
+use Rattle.layout.proofs.BoxLaws.{BoxTaken, InCube, in-cube, boxHas-in, boxIndex-lt, index-channel, index-row, index-column, at-in, whole-count, whole-index, whole-in}
 use Rattle.layout.proofs.ContentLaws.{packed-length, packed-at, edited-length, edited-at}
 use Rattle.layout.proofs.RoundTrip.{stored-raw}
 use Rattle.history.specs.Model.{putBox, takeBox}

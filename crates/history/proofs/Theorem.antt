@@ -3,7 +3,7 @@
 -- the state after any list of calls, `runTo (started q raw before) calls`. That lent elements are 16-bit numbers holds of every slice of i16. Each proof
 -- cites Simulation.antt or Separation.antt. Assumes nothing.
 use Prim.Native.Nat.{ℕ, _+_, _<_}
-use mathlib.Core.Path.{_≡_, refl, sym, ap, subst, _∙_}
+use mathlib.Core.Path.{_≡_}
 use mathlib.Core.Logic.{_≢_}
 use mathlib.Core.Bool.{true}
 use mathlib.Core.List.{List, map}
@@ -17,7 +17,7 @@ use Rattle.layout.specs.Boxes.{boxHas}
 use Rattle.layout.specs.Calls.{packAnswer}
 use Rattle.regions.specs.Slots.{Rectangle, Slot, filled, slotsOf, rectangleHas}
 use Rattle.regions.specs.Rules.{slotAt, rectangleAt, cubeBox}
-use Rattle.history.specs.Program.{Call, edit, read, SixteenBit, LendsSixteenBit, State, answerTo, elementsAfter, stateAfter, runTo, program, started}
+use Rattle.history.specs.Program.{Call, edit, read, SixteenBit, LendsSixteenBit, answerTo, elementsAfter, stateAfter, runTo, program, started}
 use Rattle.history.specs.Model.{model, shown, given}
 use Rattle.history.proofs.Moments as moments
 

@@ -1,10 +1,9 @@
 -- One list of calls, small enough to follow by hand: a cube of 3 columns, 1 row and 2 channels of int8 in 96 bytes, two regions side by side, and a
 -- refusal of each kind that can come after an accepted packing. Assumes nothing.
 use Prim.Native.Nat.{ℕ}
-use mathlib.Core.List.{List, [], _∷_, map}
+use mathlib.Core.List.{List, [], _∷_}
 use lib.ListN.{replicate}
 use lib.IntN.{ℤ, pos, negsuc}
-use Rattle.refusal.specs.Codes.{answerCode}
 use Rattle.layout.specs.declared.CubeLayout.{CubeLayout}
 use Rattle.layout.specs.declared.ElementBox.{ElementBox}
 use Rattle.regions.specs.Slots.{rectangle}

@@ -13,7 +13,7 @@ use Rattle.layout.specs.declared.ElementBox.{ElementBox}
 use Rattle.layout.specs.Geometry.{rawIndex}
 use Rattle.layout.specs.Boxes.{wholeBox, boxCount, boxHas, boxIndex, channelAt, rowAt, columnAt}
 use Rattle.layout.specs.Contents.{packed}
-use Rattle.regions.specs.Slots.{Rectangle, Slot, filled, emptySlots}
+use Rattle.regions.specs.Slots.{Slot, filled, emptySlots}
 use Rattle.regions.specs.Rules.{placeChecks, readChecks, editChecks, rectangleAt, cubeBox}
 use Rattle.history.specs.Program.{Call, place, edit, read, Shown}
 

@@ -3,17 +3,17 @@
 --     atom-surface, atom-row, atom-column, atom-byte     the division's digits at the paper's formula
 --     atom-owner        the owner at the paper's formula
 --     atom-of           a byte in an atom is the formula's, at the division's digits
-use Prim.Native.Nat.{ℕ, _+_, _-_, _*_, _/_, _%_, _≤_, _<_}
+use Prim.Native.Nat.{ℕ, _+_, _-_, _*_, _%_, _≤_, _<_}
 use native.Mathlib.Nat.{mul-le-mul-right, mod-lt, div-add-mod'}
 use native.Mathlib.Omega.{arith}
-use mathlib.Core.Path.{_≡_, refl, sym, ap, _∙_}
-use mathlib.Core.Bool.{Bool, true, false, _&&_, cond}
+use mathlib.Core.Path.{_≡_}
+use mathlib.Core.Bool.{true, _&&_}
 use lib.Arith.{digits-div, digits-mod}
 use lib.Dec.{leb, ltb}
 use borrow.Author.Tests.{lt-ltb, le-leb, ltb-true, leb-true}
 use Rattle.layout.specs.declared.CubeLayout.{CubeLayout}
 use Rattle.layout.specs.Geometry.{surfaces, atomPosition}
-use Rattle.layout.specs.Owners.{Owner, outside, surfaceOf, rowOf, columnOf, byteInAtom, inAtom, atomOwner, owner}
+use Rattle.layout.specs.Owners.{surfaceOf, rowOf, columnOf, byteInAtom, inAtom, atomOwner, owner}
 use Rattle.refusal.proofs.TestLaws.{and-left, and-right, and-both}
 use Rattle.layout.proofs.Taken.{Taken}
 

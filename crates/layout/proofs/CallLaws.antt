@@ -11,7 +11,7 @@
 use Prim.Native.Nat.{ℕ, _+_, _≤_, _<_}
 use native.Mathlib.Omega.{arith}
 use mathlib.Core.Path.{_≡_, refl, sym, ap, _∙_}
-use mathlib.Core.Bool.{Bool, true, false}
+use mathlib.Core.Bool.{true, false}
 use mathlib.Core.List.{List, [], _∷_, _++_}
 use lib.ListN.{length}
 use lib.Dec.{leb, eqb}
@@ -26,7 +26,7 @@ use Rattle.refusal.proofs.CheckLaws.{inOrder-nil, inOrder-held, inOrder-rest, i
 use Rattle.elements.specs.Values.{valueChecks}
 use Rattle.layout.specs.declared.CubeLayout.{CubeLayout}
 use Rattle.layout.specs.declared.ElementBox.{ElementBox}
-use Rattle.layout.specs.Geometry.{elementCount, cubeExtent}
+use Rattle.layout.specs.Geometry.{cubeExtent}
 use Rattle.layout.specs.Boxes.{wholeBox, boxCount, boxInside}
 use Rattle.layout.specs.Rules.{layoutChecks, boxChecks, storageChecks, cubeChecks, admitChecks}
 use Rattle.layout.specs.Calls.{packAnswer, unpackAnswer, writeBoxAnswer, readBoxAnswer}

@@ -8,8 +8,8 @@ use Prim.Native.Nat.{ℕ, _+_, _≤_, _<_}
 use native.Mathlib.Decide.{decLt}
 use native.Mathlib.Omega.{arith}
 use mathlib.Core.Path.{_≡_, refl, sym, ap, _∙_, subst}
-use mathlib.Core.Logic.{_⊎_, inl, inr, ⊎-elim}
-use mathlib.Core.Bool.{Bool, true, false, cond}
+use mathlib.Core.Logic.{⊎-elim}
+use mathlib.Core.Bool.{Bool, true, false}
 use mathlib.Core.List.{List}
 use lib.ListN.{length, getD, List·getD-eq-default}
 use lib.Seq.{ext-getD}
@@ -19,13 +19,13 @@ use Rattle.elements.proofs.ListLaws.{length-remade, getD-remade}
 use Rattle.elements.proofs.Toward.{Toward}
 use Rattle.layout.specs.declared.CubeLayout.{CubeLayout}
 use Rattle.layout.specs.declared.ElementBox.{ElementBox}
-use Rattle.layout.specs.Geometry.{sizeOf, surfaces, rawIndex, elementPosition, atomPosition}
+use Rattle.layout.specs.Geometry.{sizeOf, rawIndex, elementPosition}
 use Rattle.layout.specs.Boxes.{wholeBox, boxHas, boxIndex}
-use Rattle.layout.specs.Owners.{Owner, element, padding, outside, atomOwner, owner}
+use Rattle.layout.specs.Owners.{Owner, element, padding, outside, owner}
 use Rattle.layout.specs.Contents.{packedByte, packed, editedByte, edited}
 use Rattle.layout.proofs.Taken.{Taken}
 use Rattle.layout.proofs.Views.{View, is-element, is-padding, is-outside, see, element-owner}
-use Rattle.layout.proofs.BoxLaws.{BoxTaken, InBox, InCube, in-cube, boxHas-in, in-boxHas, whole-in, whole-index}
+use Rattle.layout.proofs.BoxLaws.{InBox, InCube, boxHas-in, in-boxHas, whole-in, whole-index}
 
 module _ (q : CubeLayout) (raw : List ℤ) (before : List ℕ) where
   pub packed-length : length (packed q raw before) ≡ length before

@@ -4,10 +4,10 @@
 --     element-aligned     an element begins at a multiple of its size
 --     element-column      along a row elements lie 32 bytes apart
 --     surfaces-pos, surfaces-le, extent-lt     bounds
-use Prim.Native.Nat.{ℕ, suc, _+_, _-_, _*_, _/_, _%_, _^_, _≤_, _<_}
+use Prim.Native.Nat.{ℕ, _+_, _-_, _*_, _/_, _%_, _^_, _≤_, _<_}
 use native.Mathlib.Nat.{mul-le-mul-right, mul-le-mul, div-add-mod'}
 use native.Mathlib.Omega.{arith}
-use mathlib.Core.Path.{_≡_, refl, sym, ap, _∙_, subst, subst⁻¹}
+use mathlib.Core.Path.{_≡_, ap, subst⁻¹}
 use mathlib.Core.Logic.{_⊎_, ⊎-elim}
 use Rattle.elements.proofs.ByteLaws.{elementBytes-cases, elementBytes-pos, elementBytes-le}
 use Rattle.layout.specs.declared.CubeLayout.{CubeLayout}

@@ -13,7 +13,7 @@ use Rattle.refusal.specs.declared.Answer.the-variants.{Accepted}
 use Rattle.elements.specs.Bytes.{byteOf}
 use Rattle.layout.specs.declared.CubeLayout.{CubeLayout}
 use Rattle.layout.specs.Geometry.{sizeOf, rawIndex, elementPosition, cubeExtent}
-use Rattle.layout.specs.Owners.{Owner, element, padding, outside, owner}
+use Rattle.layout.specs.Owners.{element, padding, outside, owner}
 use Rattle.layout.specs.Contents.{packed, unpacked}
 use Rattle.layout.specs.Calls.{packAnswer}
 use Rattle.layout.proofs.Taken.{Taken}

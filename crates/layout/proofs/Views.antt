@@ -3,21 +3,21 @@
 --     element-atom      an element's bytes lie in the atom of its surface
 --     element-owner     the owner at an element's position + b
 --     View, see         the three cases
-use Prim.Native.Nat.{ℕ, suc, _+_, _-_, _*_, _/_, _%_, _≤_, _<_}
+use Prim.Native.Nat.{ℕ, suc, _+_, _*_, _/_, _%_, _≤_, _<_}
 use native.Mathlib.Nat.{mul-le-mul-right, mod-lt, div-add-mod', div-lt-iff-lt-mul}
 use native.Mathlib.Omega.{arith}
-use mathlib.Core.Path.{_≡_, refl, sym, ap, _∙_, subst}
+use mathlib.Core.Path.{_≡_, refl, sym, ap, _∙_}
 use mathlib.Core.Logic.{_⊎_, ⊎-elim}
 use mathlib.Core.Bool.{Bool, true, false, cond}
 use lib.Arith.{digits-div, digits-mod}
-use lib.Dec.{leb, ltb}
+use lib.Dec.{ltb}
 use borrow.Author.Tests.{lt-ltb, le-ltb, ltb-true, ltb-false}
 use Rattle.elements.proofs.ByteLaws.{elementBytes-cases, elementBytes-pos}
 use Rattle.layout.specs.declared.CubeLayout.{CubeLayout}
 use Rattle.layout.specs.Geometry.{sizeOf, surfaces, elementPosition, atomPosition}
 use Rattle.layout.specs.Owners.{Owner, element, padding, outside, surfaceOf, rowOf, columnOf, byteInAtom, inAtom, atomOwner, owner}
 use Rattle.layout.proofs.Taken.{Taken}
-use Rattle.layout.proofs.Atoms.{AtomOf, atom-of, atom-owner, atom-inside}
+use Rattle.layout.proofs.Atoms.{atom-of, atom-owner, atom-inside}
 
 pub data View (q : CubeLayout) (p : ℕ) : Owner → Type 0 where
   is-element : (c h w b : ℕ) → c < q .channels → h < q .height → w < q .width → b < sizeOf q → p ≡ elementPosition q c h w + b → View q p (element c h w b)

@@ -8,7 +8,6 @@ use Rattle.refusal.specs.declared.Refusal.the-variants.{Size, PixelFormat as Fo
 use Rattle.refusal.specs.declared.Answer.{Answer}
 use Rattle.refusal.specs.declared.Quantity.{Quantity}
 use Rattle.refusal.specs.Checks.{require, inOrder, quantity}
-use Rattle.pixels.specs.declared.PixelFormat.{PixelFormat}
 use Rattle.pixels.specs.declared.PixelSetting.{PixelSetting}
 use Rattle.pixels.specs.Formats.{formatOf}
 

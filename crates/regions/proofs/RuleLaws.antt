@@ -12,13 +12,13 @@ use Prim.Native.Nat.{ℕ, _+_, _<_}
 use native.Mathlib.Omega.{arith}
 use mathlib.Core.Path.{_≡_, refl, sym, ap, _∙_}
 use mathlib.Core.Bool.{Bool, true, false, not, _&&_}
-use mathlib.Core.List.{List, [], _∷_, _++_}
+use mathlib.Core.List.{List, [], _∷_}
 use lib.ListN.{length}
 use lib.IntN.{ℤ}
-use lib.Dec.{leb, ltb}
-use borrow.Author.Tests.{le-leb, leb-true, ltb-true, not-true}
+use lib.Dec.{ltb}
+use borrow.Author.Tests.{ltb-true, not-true}
 use Rattle.refusal.specs.declared.Answer.{Answer}
-use Rattle.refusal.specs.declared.Answer.the-variants.{Accepted, Refused}
+use Rattle.refusal.specs.declared.Answer.the-variants.{Accepted}
 use Rattle.refusal.specs.declared.Refusal.the-variants.{Slot as SlotRefusal, Bounds, Overlap}
 use Rattle.refusal.specs.Checks.{require, inOrder}
 use Rattle.refusal.proofs.CheckLaws.{inOrder-held, inOrder-rest, inOrder-front, inOrder-back, inOrder-passed, inOrder-same}
@@ -28,9 +28,9 @@ use Rattle.layout.specs.declared.ElementBox.{ElementBox}
 use Rattle.layout.specs.Boxes.{spanInside, boxCount}
 use Rattle.layout.specs.Rules.{layoutChecks, boxChecks, storageChecks, admitChecks}
 use Rattle.layout.specs.Calls.{readBoxAnswer, writeBoxAnswer}
-use Rattle.refusal.proofs.TestLaws.{and-left, and-right, and-both}
+use Rattle.refusal.proofs.TestLaws.{and-left, and-right}
 use Rattle.layout.proofs.Taken.{Taken, taken}
-use Rattle.layout.proofs.BoxLaws.{Span, span-inside, inside-span, BoxTaken, taken-box}
+use Rattle.layout.proofs.BoxLaws.{Span, span-inside, BoxTaken, taken-box}
 use Rattle.layout.proofs.CallLaws.{Admitted, admitted, box-accepted}
 use Rattle.regions.specs.Slots.{Rectangle, Slot, rectangleInside, overlaps}
 use Rattle.regions.specs.Rules.{slotAt, isFilled, rectangleAt, placeChecks, boxInRectangle, cubeBox, areaChecks, readChecks, editChecks}

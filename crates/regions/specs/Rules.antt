@@ -8,7 +8,7 @@ use lib.IntN.{ℤ}
 use lib.Dec.{ltb}
 use Rattle.refusal.specs.declared.Refusal.the-variants.{Slot as SlotRefusal, Bounds, Overlap}
 use Rattle.refusal.specs.declared.Answer.{Answer}
-use Rattle.refusal.specs.Checks.{require, inOrder}
+use Rattle.refusal.specs.Checks.{require}
 use Rattle.elements.specs.Values.{valueChecks}
 use Rattle.layout.specs.declared.CubeLayout.{CubeLayout}
 use Rattle.layout.specs.declared.ElementBox.{ElementBox}

@@ -1,8 +1,8 @@
 -- The slots of a region table (scope paper, "Stalls"). Assumes nothing.
-use Prim.Native.Nat.{ℕ, zero, suc, _+_}
-use mathlib.Core.Bool.{Bool, true, false, cond, _&&_, _||_}
+use Prim.Native.Nat.{ℕ, zero, suc}
+use mathlib.Core.Bool.{Bool, false, cond, _&&_, _||_}
 use mathlib.Core.List.{List, [], _∷_, map}
-use lib.ListN.{getD, replicate, set}
+use lib.ListN.{replicate}
 use Rattle.layout.specs.declared.CubeLayout.{CubeLayout}
 use Rattle.layout.specs.Boxes.{spanInside, spanHas}
 use Rattle.regions.specs.declared.Region.{Region}

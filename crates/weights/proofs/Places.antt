@@ -1,8 +1,8 @@
 -- The statements about packed weights, in the scope paper's own formula ("Weights"): the element numbers are 0 .. K·C·R·S − 1, each one element's;
 -- each element has its own aligned place inside the surface; packing writes the elements' bytes, fills up to the multiple of 128 with 0 and
 -- keeps every later byte; what is packed is read back. Once over the element size and the group size. `Taken q` is what accepted sizes tell
--- (Taken.antt), `Element q k c r s` that the tensor has the element (ElementLaws.antt), `ElementNumbered q i` an element of number i (IndexLaws.antt), `ElementByte` the paper's formula for a byte
--- (PositionLaws.antt). Assumes nothing.
+-- (Taken.antt), `Element q k c r s` that the tensor has the element (ElementLaws.antt), `ElementNumbered q i` an element of number i
+-- (IndexLaws.antt), `ElementByte` the paper's formula for a byte (PositionLaws.antt). Assumes nothing.
 use Prim.Native.Nat.{ℕ, _+_, _*_, _%_, _≤_, _<_}
 use mathlib.Core.Path.{_≡_}
 use mathlib.Core.Logic.{_↔_}

@@ -2,8 +2,8 @@
 -- check's tests apart. Assumes nothing.
 --     Taken, taken            the facts of a layout that check 1 takes
 use Prim.Native.Nat.{ℕ, _≤_, _<_}
-use mathlib.Core.Path.{_≡_, refl}
-use mathlib.Core.Bool.{Bool, true, false, _&&_}
+use mathlib.Core.Path.{_≡_}
+use mathlib.Core.Bool.{true, _&&_}
 use lib.Dec.{leb}
 use borrow.Author.Tests.{leb-true}
 use Rattle.refusal.proofs.TestLaws.{and-left, and-right}

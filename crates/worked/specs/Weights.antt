@@ -1,8 +1,6 @@
 -- The worked cases of weights (scope paper, "Worked on squared paper"). Assumes nothing.
 use Prim.Native.Nat.{ℕ}
 use mathlib.Core.List.{List, [], _∷_}
-use lib.ListN.{replicate}
-use lib.IntN.{pos}
 use Rattle.refusal.specs.Codes.{answerCode}
 use Rattle.weights.specs.declared.WeightLayout.{WeightLayout}
 use Rattle.weights.specs.Geometry.{elementCount, elementPosition, surfaceBytes}

@@ -4,7 +4,7 @@ use mathlib.Core.Bool.{true}
 use borrow.Author.Tests.{not-true, not-false}
 use Rattle.layout.specs.declared.CubeLayout.{CubeLayout}
 use Rattle.layout.specs.Rules.{sizesTaken, stridesTaken}
-use Rattle.layout.proofs.RuleLaws.{Sizes, sizes, check-sizes, check-precision, check-strides, check-start, check-taken}
+use Rattle.layout.proofs.RuleLaws.{sizes, check-sizes, check-precision, check-strides, check-start, check-taken}
 use borrow.Author.Needs.{needs}
 use Rattle.layout.proofs.check.Statement.{statement}
 use Rattle.layout.proofs.check.Tie as tie

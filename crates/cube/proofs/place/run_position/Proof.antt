@@ -1,5 +1,4 @@
 -- `cube::place::run_position` meets its contract: the run's first element is in the cube. Assumes nothing.
-use Prim.Native.Nat.{ℕ, _+_, _≤_, _<_}
 use native.Mathlib.Omega.{arith}
 use Rattle.layout.proofs.BoxLaws.{BoxTaken}
 use Rattle.layout.proofs.Taken.{Taken}

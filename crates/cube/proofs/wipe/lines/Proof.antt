@@ -1,7 +1,7 @@
 -- `cube::wipe::lines` meets its contract. The loop's invariant: the first h lines are cleared, and the next begins at `at`. Assumes nothing.
 use Prim.Native.Nat.{ℕ, _+_, _-_, _*_, _≤_}
 use native.Mathlib.Omega.{arith}
-use mathlib.Core.Path.{_≡_, sym, ap, subst, _∙_}
+use mathlib.Core.Path.{_≡_, ap, _∙_}
 use lib.ListN.{length}
 use Rattle.cube.specs.Steps.{linesCleared}
 use Rattle.cube.proofs.WipeLaws.{lines-start, lines-step, linesCleared-length}

@@ -2,7 +2,7 @@
 use Prim.Native.Nat.{ℕ, _+_, _-_, _*_, _/_, _%_, _^_, _≤_, _<_}
 use native.Mathlib.Nat.{mul-le-mul}
 use native.Mathlib.Omega.{arith}
-use mathlib.Core.Path.{_≡_, sym, ap, subst, subst⁻¹, _∙_}
+use mathlib.Core.Path.{_≡_, ap, subst, subst⁻¹, _∙_}
 use lib.ListN.{length}
 use Rattle.elements.proofs.ByteLaws.{elementBytes-le}
 use Rattle.layout.specs.Geometry.{sizeOf, surfaces, atomPosition}

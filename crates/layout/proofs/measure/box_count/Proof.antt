@@ -1,5 +1,4 @@
 -- `layout::measure::box_count` meets its contract: the product of three numbers up to 8192 is below 2 ^ 40. Assumes nothing.
-use Prim.Native.Nat.{ℕ, _*_, _≤_}
 use native.Mathlib.Nat.{mul-le-mul}
 use native.Mathlib.Omega.{arith}
 use mathlib.Core.Path.{refl}

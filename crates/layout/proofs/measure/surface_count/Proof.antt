@@ -2,7 +2,7 @@
 use Prim.Native.Nat.{ℕ, _+_, _*_, _/_, _≤_}
 use native.Mathlib.Nat.{mul-le-mul}
 use native.Mathlib.Omega.{arith}
-use mathlib.Core.Path.{_≡_, sym, ap, subst⁻¹}
+use mathlib.Core.Path.{ap, subst⁻¹}
 use Rattle.elements.proofs.ByteLaws.{elementBytes-le}
 use Rattle.layout.specs.Geometry.{surfaces}
 use Rattle.layout.proofs.Taken.{taken}

@@ -4,7 +4,7 @@ use mathlib.Core.Path.{_≡_}
 use native.Mathlib.Omega.{arith}
 use lib.IntN.{pos, subℕ, _-ℤ_}
 use mir.Syntax.{w32, w64}
-use mir.Val.{SFits, toZ, ofZ}
+use mir.Val.{SFits, toZ}
 use mir.Facts.{toZ-pos, toZ-ofZ, sfits-widen}
 use borrow.Author.Needs.{needs}
 use Rattle.vectors.proofs.SignedLaws.{subℕ-mag-lt}

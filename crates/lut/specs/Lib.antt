@@ -1,0 +1,5 @@
+pub mod Numbers
+pub mod Tables
+pub mod Samples
+pub mod Rules
+pub mod Calls
