@@ -245,7 +245,7 @@ def parlours(precision):
                     (layout(20, 3, 33, precision, 2, 1, 32), 1)):
         rectangles = parlour(q)
         rng.shuffle(rectangles)
-        yield from some_session(rng, q, rectangles, more, 1, 50)
+        yield from some_session(rng, q, rectangles, more, 2, 180)
 
 
 def patchworks(precision):
@@ -255,7 +255,7 @@ def patchworks(precision):
                            (layout(7, 5, 40, precision, 0, 5, 4096), 333, 11),
                            (layout(9, 14, 14 + precision, precision), 32, 16)):
         rectangles = patchwork(rng, q, count + 4)[:count]
-        yield from some_session(rng, q, rectangles, more, 1, 32)
+        yield from some_session(rng, q, rectangles, more, 2, 100)
     q = layout(5, 4, 65, precision, 1, 1, 32)
     yield from some_session(rng, q, [Rectangle(0, 0, 5, 4)], 7, 0, 12)
     q = layout(1, 1, 1, precision)
