@@ -5,7 +5,7 @@
 --     exponentialX-below, exponentialX-hit          the two cases of an exponential X table
 --     hit-distance                                  a hit is at most end - start above the start
 --     reaches-above, reaches-natAbs                 a sample that reaches the first exponential entry lies above the start
---     modeTaken-linear, modeTaken-exponential       the mode's check, by the mode
+--     modeTaken-linear .. endTaken-exponential      the checks of the X table, by the mode
 use Prim.Native.Nat.{ℕ, _+_, _^_, _≤_}
 use native.Mathlib.Omega.{arith}
 use mathlib.Core.Path.{_≡_, refl}
@@ -19,9 +19,9 @@ use Rattle.lut.specs.declared.XMode.the-variants.{Linear, Exponential}
 use Rattle.lut.specs.declared.XSettings.{XSettings}
 use Rattle.lut.specs.declared.YSettings.{YSettings}
 use Rattle.lut.specs.Tables.{entry, linearPlace, linearHit, reaches, exponentialPlace, exponentialHit, sloped, placeX, hitX, answerX, placeY, answerY}
-use Rattle.lut.specs.Numbers.{between}
+use Rattle.lut.specs.Numbers.{between, scaled}
 use Rattle.lut.specs.declared.XMode.{XMode}
-use Rattle.lut.specs.Rules.{modeTaken, sameZ}
+use Rattle.lut.specs.Rules.{modeTaken, sameZ, endTaken}
 use Rattle.lut.proofs.CodeLaws.{and-left}
 
 module _ (s : YSettings) (table : List ℤ) (x : ℤ) where
@@ -89,7 +89,7 @@ above-nat (negsuc n) h = absurd (omega arith)
 pub reaches-natAbs : (offset d : ℤ) → reaches offset d ≡ true → reaches offset (pos (natAbs d)) ≡ true
 reaches-natAbs offset d e = rw (above-nat d (omega (arith, reaches-one offset d e))) e
 
--- ---- the mode's check
+-- ---- the checks of the X table, by the mode
 
 pub modeTaken-linear : (mode : XMode) (z : ℤ) → mode ≡ Linear z → between (negsuc 5) (pos 25) z ≡ modeTaken mode
 unfolding modeTaken
@@ -98,3 +98,11 @@ modeTaken-linear mode z e = rw e
 pub modeTaken-exponential : (mode : XMode) (z : ℤ) → mode ≡ Exponential z → between (negsuc 31) (pos 31) z ≡ modeTaken mode
 unfolding modeTaken
 modeTaken-exponential mode z e = rw e
+
+pub endTaken-linear : (s : XSettings) (z : ℤ) → s .mode ≡ Linear z → sameZ (s .end) (s .start +ℤ pos (scaled 64 z)) ≡ endTaken s
+unfolding endTaken
+endTaken-linear s z e = rw e
+
+pub endTaken-exponential : (s : XSettings) (z : ℤ) → s .mode ≡ Exponential z → sameZ (s .end) (pos 2147483647) ≡ endTaken s
+unfolding endTaken
+endTaken-exponential s z e = rw e

@@ -3,3 +3,4 @@ pub mod Tables
 pub mod Samples
 pub mod Rules
 pub mod Calls
+pub mod Steps
