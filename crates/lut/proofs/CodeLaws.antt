@@ -57,7 +57,7 @@ from32 z = toZ w64 (ofZ w64 (toZ w32 (ofZ w32 z)))
 abbrev held : ℤ → ℤ
 held z = toZ w64 (ofZ w64 z)
 
-nat-within : {m n : ℕ} → m ≤ n → Within n (pos m)
+pub nat-within : {m n : ℕ} → m ≤ n → Within n (pos m)
 nat-within h = record { up-le = h; dn-le = omega arith }
 
 -- a number between -n and n, by orders
@@ -65,7 +65,7 @@ ud-within : (n : ℕ) (z : ℤ) → up z ≤ n + dn z → dn z ≤ n + up z → 
 ud-within n (pos a) h k = record { up-le = omega arith; dn-le = omega arith }
 ud-within n (negsuc a) h k = record { up-le = omega arith; dn-le = omega arith }
 
-fits-up : {z : ℤ} → SFits w32 z → up z ≤ 2147483647
+pub fits-up : {z : ℤ} → SFits w32 z → up z ≤ 2147483647
 fits-up {z = pos n} f = omega (arith, f .sfits)
 fits-up {z = negsuc n} f = omega arith
 

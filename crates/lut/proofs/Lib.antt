@@ -10,4 +10,6 @@ pub mod HitLaws
 pub mod CodeLaws
 pub mod AnswerLaws
 pub mod PlaceLaws
+pub mod RuleLaws
+pub mod CheckLaws
 pub mod Statements

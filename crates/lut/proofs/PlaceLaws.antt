@@ -53,7 +53,7 @@ module _ (s : XSettings) (z : ℤ) (x : ℤ) where
 
 -- ---- what the checks leave
 
-wider : (low high low2 high2 z : ℤ) → leZ low2 low ≡ true → leZ high high2 ≡ true → between low high z ≡ true → between low2 high2 z ≡ true
+pub wider : (low high low2 high2 z : ℤ) → leZ low2 low ≡ true → leZ high high2 ≡ true → between low high z ≡ true → between low2 high2 z ≡ true
 unfolding between
 wider low high low2 high2 z f g e =
     let h = between-ud low high z e in
