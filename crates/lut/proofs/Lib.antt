@@ -12,4 +12,6 @@ pub mod AnswerLaws
 pub mod PlaceLaws
 pub mod RuleLaws
 pub mod CheckLaws
+pub mod LoopLaws
+pub mod Taken
 pub mod Statements

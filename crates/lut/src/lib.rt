@@ -3,6 +3,9 @@ mod rules;
 mod samples;
 mod tables;
 
+ghost use mathlib.Core.Path.{_≡_};
+ghost use lib.ListN.{length};
+ghost use Rattle.lut.specs.Calls.{runAnswer, runOutputs, runCounters};
 use refusal::Answer;
 
 // How the X table works: linear with a select, or exponential with an offset.
@@ -82,3 +85,36 @@ pub struct LutOutcome {
     pub counters: Counters,
 }
 
+// Answers every sample from the two tables, and counts the samples of each kind.
+pub fn run(
+    s: LutSettings,
+    xs: &[i16],
+    ys: &[i16],
+    samples: &[i32],
+    outputs: &mut [i32],
+    counters: Counters,
+) -> LutOutcome
+    ensures answered { λ r. ⌜ r .answer ≡ runAnswer s (now (xs .entry)) (now (ys .entry)) (now (samples .entry)) (length (now (outputs .entry))) counters ⌝ }
+    ensures counted { λ r. ⌜ r .counters ≡ runCounters s (now (xs .entry)) (now (ys .entry)) (now (samples .entry)) (length (now (outputs .entry))) counters ⌝ }
+    ensures left { λ r. ⌜ now (outputs .exit) ≡ runOutputs s (now (xs .entry)) (now (ys .entry)) (now (samples .entry)) counters (now (outputs .entry)) ⌝ }
+{
+    let a = rules::check(
+        s,
+        xs.len(),
+        ys.len(),
+        samples.len(),
+        outputs.len(),
+        counters,
+    );
+    let Answer::Accepted = a else {
+        return LutOutcome {
+            answer: a,
+            counters: counters,
+        };
+    };
+    let after = samples::answer_all(s, xs, ys, samples, outputs, counters);
+    LutOutcome {
+        answer: Answer::Accepted,
+        counters: after,
+    }
+}

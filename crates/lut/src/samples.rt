@@ -1,9 +1,10 @@
 // One sample: its kind, the table that answers it, and the counters.
 ghost use mathlib.Core.Path.{_≡_};
 ghost use mathlib.Core.Bool.{true};
-ghost use Prim.Native.Nat.{_<_};
+ghost use mathlib.Core.List.{map};
+ghost use Prim.Native.Nat.{_+_, _≤_, _<_};
 ghost use lib.ListN.{length};
-ghost use Rattle.lut.specs.Samples.{kindOf, sampleKind, answering, answerOf};
+ghost use Rattle.lut.specs.Samples.{kindOf, sampleKind, answering, answerOf, sampleAnswer, counted};
 ghost use Rattle.lut.specs.Rules.{modeTaken, counterSum};
 ghost use Rattle.lut.specs.Steps.{xTaken, yTaken, tallied};
 use crate::Counters;
@@ -94,4 +95,31 @@ pub(crate) fn tallied(c: Counters, kind: Kind) -> Counters
         }
     }
     next
+}
+
+// Answers every sample; hands back the counters after them.
+pub(crate) fn answer_all(
+    s: LutSettings,
+    xs: &[i16],
+    ys: &[i16],
+    samples: &[i32],
+    outputs: &mut [i32],
+    c: Counters,
+) -> Counters
+    requires { ⌜ (64 < length (now xs)) × (256 < length (now ys)) × (xTaken (s .x) ≡ true) × (yTaken (s .y) ≡ true) ⌝ }
+    requires { ⌜ (length (now outputs) ≡ length (now samples)) × (counterSum c + length (now samples) ≤ 4294967295) ⌝ }
+    ensures answered { λ r. ⌜ now (outputs .exit) ≡ map (sampleAnswer s (now (xs .entry)) (now (ys .entry))) (now (samples .entry)) ⌝ }
+    ensures tallied { λ r. ⌜ r ≡ counted s (now (samples .entry)) c ⌝ }
+{
+    let mut counters = c;
+    let mut i: usize = 0;
+    while i < samples.len() {
+        let x = samples[i];
+        let kind = sample_kind(s, x);
+        let v = answer_of(s, xs, ys, answering(s, kind), x);
+        outputs[i] = v;
+        counters = tallied(counters, kind);
+        i += 1;
+    }
+    counters
 }

@@ -196,7 +196,6 @@ pub(crate) fn answer_x_exponential(s: XSettings, offset: i32, table: &[i16], x: 
     sloped(v, x, start, scale, shift)
 }
 
-
 // What the X table answers to a sample.
 pub(crate) fn answer_x(s: XSettings, table: &[i16], x: i32) -> i32
     requires { ⌜ (64 < length (now table)) × (xTaken s ≡ true) ⌝ }
@@ -239,7 +238,11 @@ pub(crate) fn place_x(s: XSettings, x: i32) -> Place
     match mode {
         XMode::Linear(select) => linear_place(start, end, x),
         XMode::Exponential(offset) => {
-            if reaches(offset, x, start) { Place::Hit } else { Place::Below }
+            if reaches(offset, x, start) {
+                Place::Hit
+            } else {
+                Place::Below
+            }
         }
     }
 }
