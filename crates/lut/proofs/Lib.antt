@@ -1,13 +1,17 @@
 -- Laws of the definitions of specs/.
---     KindLaws         the kinds of samples, and the counters
---     CodeLaws         numbers as the code computes them
---     PlaceLaws        where a sample falls, and what the checks leave
---     AnswerLaws       what the tables answer, by where the sample falls
---     HitLaws          what a table answers to a hit
---     Statements       the claims about the lookup, each proof a citation
+--     Statements                               the claims about the lookup, each proof a citation
+--     HitLaws, AnswerLaws, PlaceLaws           what a table answers to a hit; what it answers by where the sample falls; where it falls
+--     KindLaws                                 the kinds of samples, and the counters
+--     NumberLaws, MixLaws, SlopeLaws           numbers as the code computes them
+--     SelectLaws, RuleLaws                     selects, offsets and the rules as the code takes them
+--     CheckLaws, Taken                         the checks in their order, and what an accepted run tells
+--     LoopLaws                                 the loop over the samples
 pub mod KindLaws
 pub mod HitLaws
-pub mod CodeLaws
+pub mod NumberLaws
+pub mod MixLaws
+pub mod SlopeLaws
+pub mod SelectLaws
 pub mod AnswerLaws
 pub mod PlaceLaws
 pub mod RuleLaws

@@ -21,7 +21,8 @@ use Rattle.lut.specs.Numbers.{between, scaled}
 use Rattle.lut.specs.Tables.{linearPlace, reaches, exponentialPlace, placeX}
 use Rattle.lut.specs.Rules.{modeTaken, sameZ, endTaken, shiftTaken}
 use Rattle.lut.specs.Steps.{xTaken, yTaken}
-use Rattle.lut.proofs.CodeLaws.{and-left, and-right, between-ud}
+use Rattle.refusal.proofs.TestLaws.{and-left, and-right}
+use Rattle.lut.proofs.NumberLaws.{between-ud}
 use Rattle.lut.proofs.AnswerLaws.{modeTaken-linear, modeTaken-exponential, endTaken-linear}
 
 module _ (start end x : ℤ) where

@@ -14,7 +14,7 @@ use mir.Facts.{toZ-ofZ}
 use Rattle.lut.specs.Samples.{sampleKind, answering, answerOf, sampleAnswer, counted}
 use Rattle.lut.specs.declared.Kind.{Kind}
 use Rattle.lut.specs.declared.Table.{Table}
-use Rattle.lut.proofs.CodeLaws.{back32}
+use Rattle.lut.proofs.NumberLaws.{back32}
 use Rattle.lut.proofs.PlaceLaws.{xTaken-mode}
 use Rattle.lut.proofs.KindLaws.{counted-none}
 use Rattle.lut.proofs.LoopLaws.{answered-next, answered-all, tallied-next, room}

@@ -3,7 +3,7 @@ use mathlib.Core.Path.{_≡_, _∙_}
 use borrow.Author.Needs.{needs, sfits-of}
 use mir.Facts.{toZ-ofZ}
 use Rattle.lut.specs.Tables.{answerX}
-use Rattle.lut.proofs.CodeLaws.{back32}
+use Rattle.lut.proofs.NumberLaws.{back32}
 use Rattle.lut.proofs.PlaceLaws.{xTaken-linear, xTaken-exponential}
 use Rattle.lut.proofs.tables.answer_x.Statement.{statement}
 use Rattle.lut.proofs.tables.answer_x.Tie as tie

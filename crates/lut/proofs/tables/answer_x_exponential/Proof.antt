@@ -6,7 +6,7 @@ use lib.ListN.{getD}
 use borrow.Author.Needs.{needs, sfits-of}
 use mir.Facts.{toZ-ofZ}
 use Rattle.lut.specs.Tables.{entry, reaches, exponentialHit, sloped}
-use Rattle.lut.proofs.CodeLaws.{back16, back32}
+use Rattle.lut.proofs.NumberLaws.{back16, back32}
 use Rattle.lut.proofs.AnswerLaws.{exponentialX-below, exponentialX-hit, reaches-above, reaches-natAbs}
 use Rattle.lut.proofs.tables.answer_x_exponential.Statement.{statement}
 use Rattle.lut.proofs.tables.answer_x_exponential.Tie as tie

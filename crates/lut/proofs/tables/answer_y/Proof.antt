@@ -10,7 +10,7 @@ use mir.Val.{toZ, ofZ}
 use mir.Facts.{toZ-ofZ}
 use Rattle.lut.specs.Numbers.{scaled}
 use Rattle.lut.specs.Tables.{entry, sloped, linearHit}
-use Rattle.lut.proofs.CodeLaws.{back16, back32}
+use Rattle.lut.proofs.NumberLaws.{back16, back32}
 use Rattle.lut.proofs.AnswerLaws.{answerY-below, answerY-above, answerY-hit, hit-distance}
 use Rattle.lut.proofs.tables.answer_y.Statement.{statement}
 use Rattle.lut.proofs.tables.answer_y.Tie as tie

@@ -4,7 +4,7 @@ use mathlib.Core.Path.{ap}
 use lib.IntN.{natAbs}
 use mir.Facts.{sfits-widen}
 use Rattle.integers.proofs.Casts.{cast-fits}
-use Rattle.lut.proofs.CodeLaws.{apart-fits, apart-is, apart-pos}
+use Rattle.lut.proofs.SelectLaws.{apart-fits, apart-is, apart-pos}
 use Rattle.lut.proofs.tables.distance.Statement.{statement}
 use Rattle.lut.proofs.tables.distance.Tie as tie
 

@@ -9,7 +9,8 @@ use borrow.Author.Needs.{needs, sfits-of}
 use mir.Syntax.{w32}
 use mir.Val.{SFits, toZ, ofZ}
 use mir.Facts.{toZ-ofZ, toZ-pos}
-use Rattle.lut.proofs.CodeLaws.{reaches-pos, index-is, small-fits, exponentialHit-is}
+use Rattle.lut.proofs.MixLaws.{reaches-pos, index-is, exponentialHit-is}
+use Rattle.lut.proofs.SlopeLaws.{small-fits}
 use Rattle.lut.proofs.tables.exponential_hit.Statement.{statement}
 use Rattle.lut.proofs.tables.exponential_hit.Tie as tie
 

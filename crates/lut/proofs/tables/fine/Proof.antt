@@ -6,7 +6,7 @@ use lib.IntN.{pos}
 use lib.ListN.{length, getD}
 use borrow.Author.Needs.{needs, sfits-of}
 use Rattle.lut.specs.Tables.{entry}
-use Rattle.lut.proofs.CodeLaws.{entry-cast, entry-read}
+use Rattle.lut.proofs.MixLaws.{entry-cast, entry-read}
 use Rattle.lut.proofs.tables.fine.Statement.{statement}
 use Rattle.lut.proofs.tables.fine.Tie as tie
 

@@ -4,7 +4,8 @@ use mathlib.Core.Path.{_≡_}
 use lib.IntN.{pos, _+ℤ_, _-ℤ_, _*ℤ_}
 use lib.ListN.{getD}
 use borrow.Author.Needs.{needs, sfits-of}
-use Rattle.lut.proofs.CodeLaws.{back16, shr-cast, shr-value}
+use Rattle.lut.proofs.NumberLaws.{back16}
+use Rattle.lut.proofs.MixLaws.{shr-cast, shr-value}
 use Rattle.lut.proofs.tables.interpolated.Statement.{statement}
 use Rattle.lut.proofs.tables.interpolated.Tie as tie
 

@@ -8,7 +8,8 @@ use borrow.Author.Needs.{sfits-of}
 use mir.Syntax.{w32}
 use mir.Val.{toZ, ofZ}
 use mir.Facts.{toZ-ofZ}
-use Rattle.lut.proofs.CodeLaws.{neg-select, pos-select, turned-fits, turned-value, fine-le, step-scaled, linearHit-fine, linearHit-same}
+use Rattle.lut.proofs.SlopeLaws.{turned-fits, turned-value}
+use Rattle.lut.proofs.SelectLaws.{neg-select, pos-select, fine-le, step-scaled, linearHit-fine, linearHit-same}
 use Rattle.lut.proofs.tables.linear_hit.Statement.{statement}
 use Rattle.lut.proofs.tables.linear_hit.Tie as tie
 

@@ -6,7 +6,8 @@ use lib.IntN.{pos, _+ℤ_, _-ℤ_, _*ℤ_}
 use borrow.Author.Needs.{needs}
 use mir.Facts.{sfits-widen}
 use Rattle.integers.proofs.Casts.{cast-fits}
-use Rattle.lut.proofs.CodeLaws.{power-le, first-fits, diff-fits, second-fits, mixed-fits, mixed-value}
+use Rattle.lut.proofs.NumberLaws.{power-le}
+use Rattle.lut.proofs.MixLaws.{first-fits, diff-fits, second-fits, mixed-fits, mixed-value}
 use Rattle.lut.proofs.tables.mixed.Statement.{statement}
 use Rattle.lut.proofs.tables.mixed.Tie as tie
 

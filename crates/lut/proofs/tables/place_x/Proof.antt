@@ -4,7 +4,7 @@ use lib.IntN.{pos, negsuc, _-ℤ_}
 use borrow.Author.Needs.{needs}
 use mir.Facts.{toZ-ofZ}
 use Rattle.lut.specs.Tables.{linearPlace, reaches}
-use Rattle.lut.proofs.CodeLaws.{back32}
+use Rattle.lut.proofs.NumberLaws.{back32}
 use Rattle.lut.proofs.AnswerLaws.{modeTaken-exponential}
 use Rattle.lut.proofs.PlaceLaws.{placeX-linear, placeX-hit, placeX-below}
 use Rattle.lut.proofs.tables.place_x.Statement.{statement}

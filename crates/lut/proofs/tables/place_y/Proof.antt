@@ -3,7 +3,7 @@ use mathlib.Core.Path.{_≡_}
 use borrow.Author.Needs.{needs}
 use mir.Facts.{toZ-ofZ}
 use Rattle.lut.specs.Tables.{linearPlace, placeY}
-use Rattle.lut.proofs.CodeLaws.{back32}
+use Rattle.lut.proofs.NumberLaws.{back32}
 use Rattle.lut.proofs.tables.place_y.Statement.{statement}
 use Rattle.lut.proofs.tables.place_y.Tie as tie
 

@@ -1,6 +1,6 @@
 -- `lut::tables::power` meets its contract: the power stays within 32 bits. Assumes nothing.
 use borrow.Author.Needs.{needs}
-use Rattle.lut.proofs.CodeLaws.{one-shl}
+use Rattle.lut.proofs.NumberLaws.{one-shl}
 use Rattle.lut.proofs.tables.power.Statement.{statement}
 use Rattle.lut.proofs.tables.power.Tie as tie
 

@@ -1,7 +1,7 @@
 -- `lut::tables::product` meets its contract: difference and product stay within 64 bits. Assumes nothing.
 use mir.Facts.{sfits-widen}
 use Rattle.integers.proofs.Casts.{cast-fits}
-use Rattle.lut.proofs.CodeLaws.{far-fits, product-fits, product-value}
+use Rattle.lut.proofs.SlopeLaws.{far-fits, product-fits, product-value}
 use Rattle.lut.proofs.tables.product.Statement.{statement}
 use Rattle.lut.proofs.tables.product.Tie as tie
 

@@ -9,7 +9,7 @@ use mir.Syntax.{w32, w64}
 use mir.Val.{toZ, ofZ}
 use mir.Facts.{sfits-widen, toZ-ofZ}
 use Rattle.integers.proofs.Casts.{cast-fits}
-use Rattle.lut.proofs.CodeLaws.{apart-fits, apart-is, neg-offset, pos-offset, reaches-neg, reaches-step}
+use Rattle.lut.proofs.SelectLaws.{apart-fits, apart-is, neg-offset, pos-offset, reaches-neg, reaches-step}
 use Rattle.lut.proofs.tables.reaches.Statement.{statement}
 use Rattle.lut.proofs.tables.reaches.Tie as tie
 

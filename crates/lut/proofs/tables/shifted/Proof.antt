@@ -10,7 +10,7 @@ use borrow.Author.Needs.{needs}
 use mir.Syntax.{w32}
 use mir.Val.{toZ, ofZ}
 use mir.Facts.{toZ-ofZ}
-use Rattle.lut.proofs.CodeLaws.{neg-shift, pos-shift, turned-fits, turned-value, up-fits, up-value, down-value}
+use Rattle.lut.proofs.SlopeLaws.{neg-shift, pos-shift, turned-fits, turned-value, up-fits, up-value, down-value}
 use Rattle.lut.proofs.tables.shifted.Statement.{statement}
 use Rattle.lut.proofs.tables.shifted.Tie as tie
 

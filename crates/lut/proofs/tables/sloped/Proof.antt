@@ -10,7 +10,8 @@ use Rattle.integers.proofs.Ranges.{Within}
 use Rattle.integers.proofs.Casts.{cast-fits, cast-value}
 use Rattle.lut.specs.Numbers.{shifted}
 use Rattle.lut.specs.Tables.{sloped}
-use Rattle.lut.proofs.CodeLaws.{back64, product-within, within-mag, shifted-within, end-fits, end-value, sloped-is, sloped-fits}
+use Rattle.lut.proofs.NumberLaws.{back64}
+use Rattle.lut.proofs.SlopeLaws.{product-within, within-mag, shifted-within, end-fits, end-value, sloped-is, sloped-fits}
 use Rattle.lut.proofs.tables.sloped.Statement.{statement}
 use Rattle.lut.proofs.tables.sloped.Tie as tie
 

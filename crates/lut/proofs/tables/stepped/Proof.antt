@@ -10,7 +10,7 @@ use borrow.Author.Needs.{needs, sfits-of}
 use mir.Facts.{toZ-ofZ}
 use Rattle.lut.specs.Tables.{interpolated}
 use Rattle.lut.proofs.HitLaws.{linearHit-last, linearHit-step, step-le}
-use Rattle.lut.proofs.CodeLaws.{entry-cast, entry-read}
+use Rattle.lut.proofs.MixLaws.{entry-cast, entry-read}
 use Rattle.lut.proofs.tables.stepped.Statement.{statement}
 use Rattle.lut.proofs.tables.stepped.Tie as tie
 
