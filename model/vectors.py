@@ -1,14 +1,18 @@
 """Writes crates/vectors/stdin and stdout: test cases of every call and their answers.
 
-Renders the scope paper's "Cells and cubes", "Stalls", "Weights", "Pixels" and
-"Refusal numbers" through the model's calls. The format of both files is
-described in README.md.
+Renders the scope paper's "Cells and cubes", "Stalls", "Weights", "Pixels", "Two
+tables" and "Refusal numbers" through the model's calls. The format of both
+files is described in README.md.
 """
 
 from pathlib import Path
 
+import camera
+import camera_cases
 import cube
 import cube_cases
+import lut
+import lut_cases
 import pixels
 import pixels_cases
 import quantize_cases
@@ -16,10 +20,11 @@ import regions
 import regions_cases
 import weights
 import weights_cases
-from cases import BUFFER_MAX, ELEMENTS_MAX
+from cases import BUFFER_MAX, ELEMENTS_MAX, OWN_NUMBERS
 from quantize import quantize
 
 FOLDER = Path(__file__).resolve().parent.parent / "crates" / "vectors"
+TEXT_MAX = 1048576
 
 
 # --- contents and answers ---
@@ -93,11 +98,107 @@ def pixels_answer(t):
     return (*pixels.position(p, t.x, t.y), 0)
 
 
+def signed(number):
+    """The 32-bit signed number that a number of a line stands for."""
+    return number - 2147483648
+
+
+def short(number):
+    """The 16-bit signed number that a number of a line stands for."""
+    return number % 65536 - 32768
+
+
 def quantize_answer(t):
     """The four numbers of a conversion case's output line."""
-    code, index, value = quantize(t.d - 2147483648, t.offset % 65536 - 32768,
-                                  t.scale % 65536 - 32768, t.shift, t.precision)
+    code, index, value = quantize(signed(t.d), short(t.offset), short(t.scale), t.shift, t.precision)
     return code, index, 0 if code else value + 32768, 0
+
+
+def slopes(t):
+    """The slopes of a line of settings, below and above."""
+    return (lut.Slope(short(t.below_scale), signed(t.below_shift)),
+            lut.Slope(short(t.above_scale), signed(t.above_shift)))
+
+
+def table_entries(t):
+    """The entries that a line gives to a table."""
+    source = draws(t.seed)
+    entries = [short(t.base + i * t.step + next(source) % t.span) for i in range(t.n)]
+    if t.fault_index < t.n:
+        entries[t.fault_index] = short(t.fault_value)
+    return entries
+
+
+def wide_draws(seed):
+    """The endless 32-bit numbers that follow from a seed, of two draws each."""
+    source = draws(seed)
+    while True:
+        high = next(source)
+        yield high * 65536 + next(source)
+
+
+def run_contents(t):
+    """The samples of a run, and its outputs before the call."""
+    source = wide_draws(t.seed)
+    samples = [signed((t.base + next(source) % t.span) % 4294967296) for _ in range(t.n)]
+    outputs = [signed(next(source)) for _ in range(t.m)]
+    for k in range(min(t.n, t.fault_index, OWN_NUMBERS)):
+        samples[k] = signed(t[1 + k])
+    return samples, outputs
+
+
+class Lookup:
+    """What the lines of lookups leave for the next: settings, two tables, counters."""
+
+    def __init__(self):
+        flat = lut.Slope(0, 0)
+        x, y = lut.XSettings(lut.LINEAR, 0, 0, 0, flat, flat), lut.YSettings(0, 0, 0, flat, flat)
+        self.settings = lut.LutSettings(x, y, lut.X, lut.X, lut.X)
+        self.x_entries, self.y_entries, self.counters = [], [], (0,) * 5
+
+    def answer(self, t):
+        """The four numbers of a lookup line's output line."""
+        if t.op == lut_cases.RUN:
+            return self.run(t)
+        if t.op == camera_cases.ENTRY:
+            return 0, 0, camera.entry(lut.X if t.table == 0 else lut.Y, t.index) + 32768, 0
+        if t.op == camera_cases.READY_MADE:
+            return self.ready_made(t)
+        self.set(t)
+        return 0, 0, 0, 0
+
+    def set(self, t):
+        """Sets the part of the lookup that a line is about."""
+        if t.op == lut_cases.X_SETTINGS:
+            mode = lut.LINEAR if t.mode == 0 else lut.EXPONENTIAL
+            x = lut.XSettings(mode, signed(t.number), signed(t.start), signed(t.end), *slopes(t))
+            self.settings = self.settings._replace(x=x)
+        elif t.op == lut_cases.Y_SETTINGS:
+            y = lut.YSettings(signed(t.select), signed(t.start), signed(t.end), *slopes(t))
+            self.settings = self.settings._replace(y=y)
+        elif t.op == lut_cases.PRIORITIES:
+            bits = [lut.X if bit == 0 else lut.Y for bit in t[1:4]]
+            self.settings = lut.LutSettings(self.settings.x, self.settings.y, *bits)
+            self.counters = t[4:9]
+        elif t.op == lut_cases.X_TABLE:
+            self.x_entries = table_entries(t)
+        else:
+            self.y_entries = table_entries(t)
+
+    def run(self, t):
+        """Looks up samples, and keeps the counters that the run hands back."""
+        code, index, outputs, self.counters = lut.run(self.settings, self.x_entries, self.y_entries,
+                                                      *run_contents(t), self.counters)
+        return code, index, checksum(v + 2147483648 for v in outputs), checksum(self.counters)
+
+    def ready_made(self, t):
+        """Takes the ready-made setting and its curves, if it is not refused."""
+        bits = [None if choice == 0 else lut.X if choice == 1 else lut.Y for choice in t[2:5]]
+        code, index, settings = camera.ready_made(signed(t.s), *bits)
+        if not code:
+            self.settings = settings
+            self.x_entries, self.y_entries = camera.X_CURVE, camera.Y_CURVE
+        return code, index, 0, 0
 
 
 class Session:
@@ -173,8 +274,10 @@ class Session:
             assert self.table == (self.picture.layout, self.picture.slots)
 
 
+LOOKUP = Lookup()
 KINDS = ((cube_cases, cube_answer), (weights_cases, weights_answer), (pixels_cases, pixels_answer),
-         (quantize_cases, quantize_answer), (regions_cases, Session().answer))
+         (quantize_cases, quantize_answer), (lut_cases, LOOKUP.answer), (camera_cases, LOOKUP.answer),
+         (regions_cases, Session().answer))
 
 
 # --- files ---
@@ -188,12 +291,19 @@ def check_case(t):
     """Asserts that a case keeps to the file's format."""
     assert len(t) == 21 and all(0 <= number <= cube.U32_MAX for number in t), t
     assert t.n <= ELEMENTS_MAX and t.m <= BUFFER_MAX, t
-    assert t.span >= 1 and t.base + t.span <= 65536 and t.fault_value <= 65535, t
+    assert t.span >= 1 and t.fault_value <= 65535, t
+    if t.op == lut_cases.RUN:
+        assert t.m <= lut_cases.SAMPLES_MAX and t.fault_index <= OWN_NUMBERS, t
+    elif t.op in (lut_cases.X_TABLE, lut_cases.Y_TABLE):
+        assert t.n <= lut_cases.ENTRIES_MAX, t
+    else:
+        assert t.base + t.span <= 65536, t
 
 
 def write_lines(name, rows):
     """Writes rows of numbers, one row a line."""
     text = "".join(" ".join(map(str, row)) + "\n" for row in rows)
+    assert len(text) <= TEXT_MAX
     (FOLDER / name).write_text(text, encoding="ascii", newline="\n")
 
 

@@ -1,15 +1,19 @@
-"""Asserts the starred cube, weight and conversion cases of the scope paper's "Worked on squared paper".
+"""Asserts the starred cases of the scope paper's "Worked on squared paper".
 
 Beside them stand inputs on which readings of "Cells and cubes", "Stalls",
-"Weights", "Pixels" and "Refusal numbers" part. Prints nothing if all hold.
+"Weights", "Pixels", "Two tables" and "Refusal numbers" part. Prints nothing if
+all hold.
 """
 
 from itertools import product
 
+import camera
 import pixels
 import weights
 from cube import (Box, CubeLayout, box_positions, element_position, extent, pack, position,
                   read_box, surface_count, unpack, whole_box, write_box)
+from lut import (EXPONENTIAL, LINEAR, OVERFLOW, PRIORITY, S32_MAX, S32_MIN, UNDERFLOW, X_ONLY,
+                 LutSettings, Slope, XSettings, YSettings, linear_value, look, run, run_code, x_value)
 from quantize import quantize
 from regions import (NO_RECTANGLE, Rectangle, RegionTable, Slot, edit, empty_table, place, read,
                      share_position, with_slot)
@@ -17,6 +21,11 @@ from weights import WeightLayout
 
 EXAMPLE = CubeLayout(3, 2, 40, 0, 128, 256, 0)
 WEIGHTS = WeightLayout(3, 65, 1, 2, 0)
+HALF_STEPS = Slope(3, 1)
+TENS, FLAT_Y = [10 * i for i in range(65)], [0] * 257
+X_LINEAR = XSettings(LINEAR, 2, 0, 256, HALF_STEPS, HALF_STEPS)
+X_EXPONENTIAL = XSettings(EXPONENTIAL, 0, 0, S32_MAX, HALF_STEPS, HALF_STEPS)
+LUT = LutSettings(X_LINEAR, YSettings(0, 1000, 1256, HALF_STEPS, HALF_STEPS), 0, 0, 0)
 
 
 def starred():
@@ -177,6 +186,78 @@ def pixel_settings():
     assert pixels.position(far, 9, 5) == (0, 0, 6 * 4294967264 + 56)
 
 
+def starred_lookups():
+    """The starred lookup cases; neither the slope nor the step between entries is rounded first."""
+    assert x_value(X_LINEAR, TENS, 6) == 15
+    assert x_value(X_LINEAR, TENS, 258) == 643 != 640 + 2 * (3 // 2) == 642
+    assert x_value(X_LINEAR, TENS, -1) == -2
+    assert x_value(X_LINEAR, TENS, 256) == 640
+    falling = TENS[:2] + [7] + TENS[3:]
+    assert x_value(X_LINEAR, falling, 6) == 8 != 10 - 3 * 2 // 4 == 9
+    assert x_value(X_EXPONENTIAL, TENS, 6) == 25
+    assert look(LUT._replace(x=X_EXPONENTIAL), TENS, FLAT_Y, 0) == (UNDERFLOW, 0)
+    from_8 = LUT._replace(x=X_EXPONENTIAL._replace(number=3))
+    assert look(from_8, TENS, FLAT_Y, 7)[0] == UNDERFLOW
+    assert look(from_8, TENS, FLAT_Y, 8) == (X_ONLY, 0)
+
+
+def lookup_readings():
+    """Below an exponential X the distance may be positive; products and ends do not wrap."""
+    from_8 = X_EXPONENTIAL._replace(number=3)
+    assert x_value(from_8, [5] + TENS[1:], 7) == 5 + 7 * 3 // 2
+    widest = from_8._replace(start=S32_MAX, below=Slope(-32768, -16))
+    assert (S32_MIN - S32_MAX) * -32768 * 2 ** 16 == 2 ** 63 - 2 ** 31
+    assert x_value(widest, TENS, S32_MIN) == S32_MAX
+    for end in (S32_MIN + 63, S32_MAX):
+        late = X_LINEAR._replace(number=0, start=S32_MAX, end=end)
+        assert run_code(LUT._replace(x=late), TENS, FLAT_Y, [], [], (0,) * 5) == 13
+    assert x_value(X_EXPONENTIAL._replace(number=-32, start=S32_MIN), TENS, S32_MAX) == 639
+    assert [linear_value(TENS, -6, d) for d in (0, 1)] == [0, 640]
+
+
+def lookup_runs():
+    """18 comes before 17; 17 counts all five counters, also without samples; 16 all four shifts."""
+    full = (4294967295, 1, 0, 0, 0)
+    assert run(LUT, TENS, FLAT_Y, [], [], full) == (17, 0, [], full)
+    assert run(LUT, TENS, FLAT_Y, [], [7], full) == (18, 0, [7], full)
+    exact = (4294967290, 1, 1, 1, 0)
+    assert run(LUT, TENS, FLAT_Y, [1, 2, 300], [9] * 3, exact) == (17, 0, [9] * 3, exact)
+    after = (4294967291, 1, 1, 1, 1)
+    assert run(LUT, TENS, FLAT_Y, [6, 258], [9] * 2, exact) == (0, 0, [15, 643], after)
+    unused = LUT._replace(x=X_EXPONENTIAL._replace(above=Slope(0, 16)))
+    assert run_code(unused, TENS, FLAT_Y, [], [], (0,) * 5) == 16
+
+
+def lookup_kinds():
+    """One above and one below is of the priority kind, and the named table answers by its slope."""
+    for bit, value in ((0, 643), (1, (258 - 1000) * 3 // 2)):
+        assert look(LUT._replace(priority=bit), TENS, FLAT_Y, 258) == (PRIORITY, value)
+    for bit, value in ((0, 640 + (1258 - 256) * 3 // 2), (1, 3)):
+        assert look(LUT._replace(overflow=bit), TENS, FLAT_Y, 1258) == (OVERFLOW, value)
+
+
+def starred_curves():
+    """The starred curve entries; every entry is the greatest by its rule; past the end is the last."""
+    assert (camera.entry(1, 2), camera.entry(1, 255)) == (1448, 16351)
+    for table, count, step in ((0, 65, 262144), (1, 257, 1048576)):
+        entries = [camera.entry(table, i) for i in range(count)]
+        assert all(e * e <= i * step < (e + 1) * (e + 1) for i, e in enumerate(entries))
+        assert camera.entry(table, count) == camera.entry(table, 4294967295) == entries[-1]
+
+
+def starred_ready_made():
+    """The starred ready-made case; s outside 2 to 22 is 14; a bit left unnamed is 0."""
+    code, _, q = camera.ready_made(4)
+    assert code == 0
+    assert run(q, camera.X_CURVE, camera.Y_CURVE, [256, 257, 4097, -1], [9] * 4, (0,) * 5) == (
+        0, 0, [4096, 4103, 4096, 0], (0, 1, 1, 1, 1))
+    assert camera.ready_made(4, 0, None, 1)[2] == q._replace(underflow=1)
+    for s in range(-1, 25):
+        code, _, q = camera.ready_made(s)
+        assert code == (0 if 2 <= s <= 22 else 14)
+        assert code or run_code(q, camera.X_CURVE, camera.Y_CURVE, [], [], (0,) * 5) == 0
+
+
 if __name__ == "__main__":
     starred()
     record_script()
@@ -191,3 +272,9 @@ if __name__ == "__main__":
     lent_weights()
     starred_conversions()
     pixel_settings()
+    starred_lookups()
+    lookup_readings()
+    lookup_runs()
+    lookup_kinds()
+    starred_curves()
+    starred_ready_made()

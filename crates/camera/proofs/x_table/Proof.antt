@@ -1,0 +1,13 @@
+-- `camera::x_table` meets its contract: one test over all stored entries finds each to be the greatest root. Assumes nothing.
+use lib.Dec.{lit≤}
+use Rattle.camera.specs.Curve.{curveX, xTable}
+use Rattle.camera.proofs.CurveLaws.{curve-all}
+use Rattle.camera.proofs.x_table.Statement.{statement}
+use Rattle.camera.proofs.x_table.Tie as tie
+
+returns : tie.Need-returns
+unfolding curveX xTable
+returns c = curve-all 64 262144 _ 0 tt (lit≤ tt)
+
+pub x-table-spec : {M : Type 1} → statement M
+x-table-spec = tie.close (tie.spec returns)
