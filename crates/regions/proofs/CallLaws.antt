@@ -3,7 +3,8 @@
 --     edit-denied, edit-kept, edit-answered, edit-left     an edit refused by 1 to 4, 8 or 9, and one past them
 --     read-denied, read-kept, read-answered, read-left     the same of a read
 --     place-number, place-kept, place-left                 a placing accepted, and refused
-use Prim.Native.Nat.{ℕ, _<_}
+--     position-denied, position-is                         a position refused, and given
+use Prim.Native.Nat.{ℕ, _+_, _<_}
 use mathlib.Core.Path.{_≡_, sym, ap, _∙_}
 use mathlib.Core.List.{List}
 use lib.ListN.{length, set}
@@ -11,19 +12,21 @@ use lib.IntN.{ℤ}
 use Rattle.refusal.specs.declared.Answer.{Answer}
 use Rattle.refusal.specs.declared.Answer.the-variants.{Accepted, Refused}
 use Rattle.refusal.specs.declared.Refusal.{Refusal}
+use Rattle.refusal.specs.declared.Quantity.the-variants.{Denied}
 use Rattle.refusal.specs.Checks.{inOrder, leaves}
-use Rattle.refusal.proofs.CheckLaws.{inOrder-refused, leaves-done, leaves-before}
+use Rattle.refusal.proofs.CheckLaws.{inOrder-refused, leaves-done, leaves-before, quantity-is, quantity-denied}
 use Rattle.elements.specs.Values.{valueChecks}
 use Rattle.layout.specs.declared.ElementBox.{ElementBox}
-use Rattle.layout.specs.Boxes.{boxCount}
+use Rattle.layout.specs.Boxes.{oneElement, boxCount}
+use Rattle.layout.specs.Geometry.{elementPosition}
 use Rattle.layout.specs.Rules.{storageChecks}
 use Rattle.layout.specs.Contents.{edited, boxElements}
-use Rattle.layout.specs.Calls.{writeBoxAnswer, writeBoxBuffer, readBoxAnswer, readBoxElements}
+use Rattle.layout.specs.Calls.{writeBoxAnswer, writeBoxBuffer, readBoxAnswer, readBoxElements, positionQuantity}
 use Rattle.regions.specs.declared.RegionTable.{RegionTable}
 use Rattle.regions.specs.Slots.{Rectangle, slotsOf}
 use Rattle.regions.specs.Rules.{rectangleAt, cubeBox, areaChecks, readChecks, editChecks}
-use Rattle.regions.specs.Calls.{placedRegion, placeAnswer, placeTable, editAnswer, editBuffer, readAnswer, readElements}
-use Rattle.regions.proofs.RuleLaws.{read-box, edit-box, place-accepted}
+use Rattle.regions.specs.Calls.{placedRegion, placeAnswer, placeTable, editAnswer, editBuffer, readAnswer, readElements, regionPosition}
+use Rattle.regions.proofs.RuleLaws.{area-box, read-box, edit-box, place-accepted}
 
 module _ (t : RegionTable) (n : ℕ) (b : ElementBox) where
   -- ---- edit
@@ -83,3 +86,18 @@ module _ (t : RegionTable) (n : ℕ) (g : Rectangle) where
   pub place-left : placeAnswer t n g ≡ Accepted → record { layout = t .layout; slots = set (t .slots) n (placedRegion g) } ≡ placeTable t n g
   unfolding placeTable
   place-left e = sym (leaves-done (record { layout = t .layout; slots = set (t .slots) n (placedRegion g) }) t e)
+
+-- ---- position
+module _ (t : RegionTable) (n c h w : ℕ) where
+  pub position-denied : {r : Refusal} {i : ℕ} → inOrder (areaChecks (t .layout) (slotsOf t) n (oneElement c h w)) ≡ Refused r i → Denied r i ≡ regionPosition t n c h w
+  unfolding regionPosition
+  position-denied e = sym (quantity-denied _ e)
+
+  pub position-is : {box : ElementBox} → box ≡ cubeBox (rectangleAt (slotsOf t) n) (oneElement c h w)
+      → inOrder (areaChecks (t .layout) (slotsOf t) n (oneElement c h w)) ≡ Accepted
+      → positionQuantity (t .layout) (box .channel) (box .row) (box .column) ≡ regionPosition t n c h w
+  unfolding regionPosition positionQuantity
+  position-is moved ok =
+      rw moved
+      (quantity-is (elementPosition (t .layout) c (rectangleAt (slotsOf t) n .row + h) (rectangleAt (slotsOf t) n .column + w)) (area-box (t .layout) (slotsOf t) n (oneElement c h w) ok)
+      ∙ sym (quantity-is (elementPosition (t .layout) c (rectangleAt (slotsOf t) n .row + h) (rectangleAt (slotsOf t) n .column + w)) ok))

@@ -1,19 +1,22 @@
 -- What placing, editing and reading answer and leave (scope paper, "Stalls"). Where a call is refused, the table and every lent list stay as
 -- they were; an edit and a read hand the table back as it came. Assumes nothing.
-use Prim.Native.Nat.{ℕ}
+use Prim.Native.Nat.{ℕ, _+_}
 use mathlib.Core.Bool.{true, false}
 use mathlib.Core.List.{List}
 use lib.ListN.{length, set, replicate}
 use lib.IntN.{ℤ}
 use Rattle.refusal.specs.declared.Answer.{Answer}
-use Rattle.refusal.specs.Checks.{inOrder, leaves}
+use Rattle.refusal.specs.declared.Quantity.{Quantity}
+use Rattle.refusal.specs.Checks.{inOrder, leaves, quantity}
 use Rattle.layout.specs.declared.CubeLayout.{CubeLayout}
 use Rattle.layout.specs.declared.ElementBox.{ElementBox}
+use Rattle.layout.specs.Boxes.{oneElement}
+use Rattle.layout.specs.Geometry.{elementPosition}
 use Rattle.layout.specs.Contents.{edited, boxElements}
 use Rattle.regions.specs.declared.Region.{Region}
 use Rattle.regions.specs.declared.RegionTable.{RegionTable}
 use Rattle.regions.specs.Slots.{Rectangle, slotsOf}
-use Rattle.regions.specs.Rules.{placeChecks, readChecks, editChecks, rectangleAt, cubeBox}
+use Rattle.regions.specs.Rules.{placeChecks, areaChecks, readChecks, editChecks, rectangleAt, cubeBox}
 
 -- the empty table of a layout
 abbrev pub emptyTable : CubeLayout → RegionTable
@@ -45,3 +48,9 @@ readAnswer t n b given len = inOrder (readChecks (t .layout) (slotsOf t) n b giv
 unfoldable pub readElements : RegionTable → ℕ → ElementBox → List ℕ → List ℤ → List ℤ
 readElements t n b buffer before =
     leaves (readAnswer t n b (length before) (length buffer)) (boxElements (t .layout) (cubeBox (rectangleAt (slotsOf t) n) b) buffer) before
+
+-- the byte at which an element begins, counted from the corner of the region in the slot: 1 to 4, 8, 9, as for a box of one element
+unfoldable pub regionPosition : RegionTable → ℕ → ℕ → ℕ → ℕ → Quantity
+regionPosition t n c h w =
+    let g = rectangleAt (slotsOf t) n in
+    quantity (inOrder (areaChecks (t .layout) (slotsOf t) n (oneElement c h w))) (elementPosition (t .layout) c (g .row + h) (g .column + w))

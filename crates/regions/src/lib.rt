@@ -5,10 +5,11 @@ mod rules;
 ghost use mathlib.Core.Path.{_≡_};
 ghost use lib.ListN.{length};
 ghost use Rattle.regions.specs.Slots.{rectangle};
-ghost use Rattle.regions.specs.Calls.{emptyTable, placeAnswer, placeTable, editAnswer, editBuffer, readAnswer, readElements};
+ghost use Rattle.regions.specs.Calls.{emptyTable, placeAnswer, placeTable, editAnswer, editBuffer, readAnswer, readElements, regionPosition};
 use layout::CubeLayout;
 use layout::ElementBox;
 use refusal::Answer;
+use refusal::Quantity;
 
 // A slot of the table: whether a region is placed in it, and the region's first column and row, columns and rows. It reaches over all channels
 // (the scope paper's "stall"). The numbers of a slot that is not placed mean nothing.
@@ -140,5 +141,26 @@ pub fn read(
     Outcome {
         answer: answer,
         table: table,
+    }
+}
+
+// The byte at which an element begins, counted from the corner of the region in a slot.
+pub fn position(table: RegionTable, slot: u32, channel: u32, row: u32, column: u32) -> Quantity
+    ensures { λ r. ⌜ r ≡ regionPosition table slot channel row column ⌝ }
+{
+    let area = ElementBox {
+        channel: channel,
+        row: row,
+        column: column,
+        channels: 1,
+        rows: 1,
+        columns: 1,
+    };
+    match rules::check_area(table, slot, area) {
+        Answer::Refused(refusal, at) => Quantity::Denied(refusal, at),
+        Answer::Accepted => {
+            let moved = rules::cube_box(table, slot, area);
+            cube::position(table.layout, moved.channel, moved.row, moved.column)
+        }
     }
 }

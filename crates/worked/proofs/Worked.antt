@@ -1,6 +1,6 @@
 -- Every worked case of the scope paper holds of the definitions: one table, one statement, by computation. Assumes nothing.
 use mathlib.Core.List.{List, _++_}
-use lib.Dec.{T}
+use lib.Dec.{T, lit≤, lit<}
 use Rattle.refusal.specs.Checks.{requireAt, inOrder, leaves}
 use Rattle.elements.specs.Bytes.{elementBytes, byteOf}
 use Rattle.elements.specs.Lists.{remadeFrom, remade}
@@ -15,15 +15,33 @@ use Rattle.weights.specs.Geometry as w
 use Rattle.weights.specs.Rules as wr
 use Rattle.weights.specs.Calls as wc
 use Rattle.quantize.specs.Quantize.{lowest, highest, quantizeChecks, quantized, valueOr, quantizeAnswer}
+use Rattle.lut.specs.Numbers.{between, scaled, shifted, logBelow}
+use Rattle.lut.specs.Tables.{entry, interpolated, linearPlace, linearHit, reaches, exponentialPlace, exponentialHit, sloped, placeX, hitX, answerX, placeY, answerY}
+use Rattle.lut.specs.Samples.{kindOf, sampleKind, answering, answerOf, sampleAnswer, kindNumber, sameKind, countOf, counted}
+use Rattle.lut.specs.Rules.{modeTaken, sameZ, endTaken, shiftTaken, counterSum, lutChecks}
+use Rattle.lut.specs.Calls.{runAnswer, runOutputs, runCounters}
+use Rattle.camera.specs.Curve.{curveEntry, curveY, curveX, indices, yTable, xTable}
+use Rattle.camera.specs.Ready.{chosen, flat, readySettings}
+use Rattle.camera.proofs.RootLaws.{root-is}
 use Rattle.worked.specs.Cases.{Case, allGiven}
 use Rattle.worked.specs.Cubes.{cubeCases}
 use Rattle.worked.specs.Weights.{weightCases}
 use Rattle.worked.specs.Conversions.{conversionCases}
+use Rattle.worked.specs.Lookups.{tensFrom, lookupCases}
+use Rattle.worked.specs.Cameras.{cameraCases}
 
 -- the table
 unfoldable pub cases : List Case
-cases = cubeCases ++ weightCases ++ conversionCases
+cases = cubeCases ++ weightCases ++ conversionCases ++ lookupCases ++ cameraCases
 
 pub worked : T (allGiven cases)
-unfolding cases allGiven cubeCases weightCases conversionCases requireAt inOrder leaves elementBytes byteOf remadeFrom remade valueTaken valueCheck valueChecksFrom valueChecks elementCount rawIndex surfaces elementPosition cubeExtent sizeTaken sizesTaken wholeAtoms stridesTaken layoutChecks storageChecks cubeChecks surfaceOf rowOf columnOf byteInAtom inAtom atomOwner owner packedByte packed packAnswer packBuffer unpackAnswer w.groupSize w.elementCount w.groupKernels w.blockChannels w.placeNumber w.elementNumber w.elementPosition w.surfaceBytes wr.sizeTaken wr.sizesTaken wr.weightChecks wc.unpackAnswer saturate lowest highest quantizeChecks quantized valueOr quantizeAnswer
-worked = tt
+unfolding cases allGiven cubeCases weightCases conversionCases lookupCases cameraCases tensFrom requireAt inOrder leaves elementBytes byteOf remadeFrom remade valueTaken valueCheck valueChecksFrom valueChecks elementCount rawIndex surfaces elementPosition cubeExtent sizeTaken sizesTaken wholeAtoms stridesTaken layoutChecks storageChecks cubeChecks surfaceOf rowOf columnOf byteInAtom inAtom atomOwner owner packedByte packed packAnswer packBuffer unpackAnswer w.groupSize w.elementCount w.groupKernels w.blockChannels w.placeNumber w.elementNumber w.elementPosition w.surfaceBytes wr.sizeTaken wr.sizesTaken wr.weightChecks wc.unpackAnswer saturate lowest highest quantizeChecks quantized valueOr quantizeAnswer between scaled shifted logBelow entry interpolated linearPlace linearHit reaches exponentialPlace exponentialHit sloped placeX hitX answerX placeY answerY kindOf sampleKind answering answerOf sampleAnswer kindNumber sameKind countOf counted modeTaken sameZ endTaken shiftTaken counterSum lutChecks runAnswer runOutputs runCounters curveEntry curveY curveX indices yTable xTable chosen flat readySettings
+worked =
+    -- the curve's roots, by their squares
+    rw (
+      root-is 0 0 (lit≤ tt) (lit< tt),
+      root-is 2097152 1448 (lit≤ tt) (lit< tt),
+      root-is 267386880 16351 (lit≤ tt) (lit< tt),
+      root-is 16777216 4096 (lit≤ tt) (lit< tt),
+      root-is 17825792 4222 (lit≤ tt) (lit< tt),
+    ) tt
