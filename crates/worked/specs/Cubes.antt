@@ -1,4 +1,4 @@
--- The worked cases of feature cubes (scope paper, "Worked on squared paper"). Assumes nothing.
+-- The worked cases of feature cubes (scope paper, "Worked on squared paper"), and a reading that the paper shuts out. Assumes nothing.
 use Prim.Native.Nat.{ℕ}
 use mathlib.Core.List.{List, [], _∷_}
 use lib.ListN.{getD, replicate}
@@ -27,6 +27,14 @@ checkCode q = answerCode (inOrder (layoutChecks q))
 abbrev pub minusTwo : List ℕ
 minusTwo = packBuffer (layoutOf 1 1 1 1 32 32 0) (negsuc 1 ∷ []) (replicate 32 7)
 
+-- two lines of one int8 element, packed into 96 bytes of 7: byte 32 lies between the lines
+abbrev pub twoLines : List ℕ
+twoLines = packBuffer (layoutOf 1 2 1 0 64 96 0) (pos 5 ∷ pos 6 ∷ []) (replicate 96 7)
+
+-- the same with each line filled to its stride
+abbrev pub filledLines : List ℕ
+filledLines = packBuffer (layoutOf 2 2 1 0 64 128 0) (pos 5 ∷ pos 5 ∷ pos 6 ∷ pos 6 ∷ []) (replicate 128 7)
+
 unfoldable pub cubeCases : List Case
 cubeCases =
     -- cell (33, 1, 2) at 449; the extent is 480
@@ -44,6 +52,10 @@ cubeCases =
     ∷ gives (getD minusTwo 0 0) 0xfe
     ∷ gives (getD minusTwo 1 0) 0xff
     ∷ gives (getD minusTwo 2 7) 0
+    -- a byte between two lines stays; a line filled to its stride would change it
+    ∷ gives (getD twoLines 32 0) 7
+    ∷ gives (getD twoLines 64 0) 6
+    ∷ gives (getD filledLines 32 0) 5
     -- int16: C = 16 has one surface, C = 17 two
     ∷ gives (surfaces (layoutOf 1 1 16 1 32 32 0)) 1
     ∷ gives (surfaces (layoutOf 1 1 17 1 32 32 0)) 2
