@@ -12,8 +12,14 @@ use crate::print::print_answer;
 use refusal::Answer;
 
 // Puts in the elements what they hold before the call, and answers the generator's state after them.
-pub fn draw_elements(case: &[u8], elements: &mut [i16]) -> u32 {
-    let x = fill_elements(elements, field(case, 16), field(case, 17), field(case, 18));
+pub fn draw_elements(case: &[u8], elements: &mut [i16], step: u32) -> u32 {
+    let x = fill_elements(
+        elements,
+        field(case, 16),
+        field(case, 17),
+        step,
+        field(case, 18),
+    );
     put_fault(elements, field(case, 19), field(case, 20));
     x
 }
@@ -29,7 +35,7 @@ fn call(case: &[u8], elements: &mut [i16], buffer: &mut [u8]) -> Answer {
 
 // Makes the call of a case, and prints its answer and what it left in the elements and the buffer.
 fn run_lent(case: &[u8], elements: &mut [i16], buffer: &mut [u8]) {
-    fill_bytes(buffer, draw_elements(case, elements));
+    fill_bytes(buffer, draw_elements(case, elements, 0));
     let answer = call(case, elements, buffer);
     print_answer(answer, element_checksum(elements), byte_checksum(buffer));
 }

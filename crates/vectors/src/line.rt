@@ -1,6 +1,8 @@
 // The numbers of a case's line: decimal digits, one space between. Assumes nothing of the line.
 ghost use mathlib.Core.Path.{_≡_};
 ghost use Prim.Native.Nat.{_+_, _*_, _%_, _≤_};
+use crate::contents::element_of;
+use crate::contents::sample_of;
 
 // A number with one digit more, modulo 2^32. The low four bits of a digit's byte are its value.
 fn with_digit(value: u32, digit: u8) -> u32
@@ -25,10 +27,26 @@ pub fn field(line: &[u8], k: usize) -> u32 {
     value
 }
 
+// A count, at most `most`.
+pub fn held(n: usize, most: usize) -> usize
+    ensures { λ r. ⌜ r ≤ most ⌝ }
+{
+    if n < most { n } else { most }
+}
+
 // Number k of a line as a count, at most `most`.
 pub fn count_of(line: &[u8], k: usize, most: usize) -> usize
     ensures { λ r. ⌜ r ≤ most ⌝ }
 {
-    let n = field(line, k) as usize;
-    if n < most { n } else { most }
+    held(field(line, k) as usize, most)
+}
+
+// The 16-bit number that number k of a line stands for, modulo 65536: 0 is -32768.
+pub fn short_field(line: &[u8], k: usize) -> i16 {
+    element_of(field(line, k) as u64)
+}
+
+// The 32-bit number that number k of a line stands for: 0 is -2147483648.
+pub fn signed_field(line: &[u8], k: usize) -> i32 {
+    sample_of(field(line, k) as u64)
 }

@@ -46,10 +46,15 @@ pub fn print_quantity(q: Quantity) {
     }
 }
 
-// The line of a converted value, which is given by its number.
+// The line of a value of 16 bits, which is given by its number.
+pub fn print_element(value: i16) {
+    print_value(number_of(value) as u64);
+}
+
+// The line of a converted value.
 pub fn print_quantized(q: Quantized) {
     match q {
-        Quantized::Value(value) => print_value(number_of(value) as u64),
+        Quantized::Value(value) => print_element(value),
         Quantized::Denied(r, at) => print_refusal(r, at),
     }
 }

@@ -10,6 +10,7 @@ use crate::lent_case::draw_elements;
 use crate::lent_case::zero_elements;
 use crate::line::count_of;
 use crate::line::field;
+use crate::line::held;
 use crate::print::print_answer;
 use refusal::Answer;
 use regions::Outcome;
@@ -111,7 +112,7 @@ fn call(case: &[u8], table: RegionTable, elements: &mut [i16], buffer: &mut [u8]
 
 // Draws the elements, and the buffer of op 20; that of another op stays.
 fn fill(case: &[u8], elements: &mut [i16], buffer: &mut [u8]) {
-    let x = draw_elements(case, elements);
+    let x = draw_elements(case, elements, 0);
     if field(case, 0) == 20 {
         fill_bytes(buffer, x);
     }
@@ -138,7 +139,7 @@ fn used(case: &[u8], len: usize, most: usize) -> usize
     if field(case, 0) == 20 {
         return count_of(case, 15, most);
     }
-    if len < most { len } else { most }
+    held(len, most)
 }
 
 // A case of a session; more than 8192 elements count as 8192.

@@ -8,16 +8,16 @@ use Rattle.vectors.proofs.run_all.Statement.{statement}
 use Rattle.vectors.proofs.run_all.Tie as tie
 
 abbrev Inv-loop : tie.InvT-loop
-Inv-loop text buffer₀ session₀ start₀ i₀ buffer session start i = (start ≤ i) × (i ≤ length text)
+Inv-loop text buffer₀ state₀ start₀ i₀ buffer state start i = (start ≤ i) × (i ≤ length text)
 
 abbrev μ-loop : tie.MeasureT-loop
-μ-loop text buffer₀ session₀ start₀ i₀ buffer session start i = length text - i
+μ-loop text buffer₀ state₀ start₀ i₀ buffer state start i = length text - i
 
 large-buffer-requires : tie.Need-large-buffer-requires Inv-loop μ-loop
 large-buffer-requires c κs = tt
 
-first-session-requires : tie.Need-first-session-requires Inv-loop μ-loop
-first-session-requires c κs = tt
+first-state-requires : tie.Need-first-state-requires Inv-loop μ-loop
+first-state-requires c κs = tt
 
 loop-holds : tie.Need-loop-holds Inv-loop μ-loop
 loop-holds c = search needs
@@ -59,7 +59,7 @@ run-all-spec =
     Inv-loop
     μ-loop
     large-buffer-requires
-    first-session-requires
+    first-state-requires
     loop-holds
     shared-slice-read-if1
     sub-run-line

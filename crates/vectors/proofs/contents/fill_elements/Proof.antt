@@ -8,10 +8,10 @@ use Rattle.vectors.proofs.contents.fill_elements.Statement.{statement}
 use Rattle.vectors.proofs.contents.fill_elements.Tie as tie
 
 abbrev Inv-loop : tie.InvT-loop
-Inv-loop elements₀ seed base span x₀ i₀ elements x i = (i ≤ length elements) × (length elements ≡ length elements₀)
+Inv-loop elements₀ seed base step span x₀ first₀ i₀ elements x first i = (i ≤ length elements) × (length elements ≡ length elements₀)
 
 abbrev μ-loop : tie.MeasureT-loop
-μ-loop elements₀ seed base span x₀ i₀ elements x i = length elements - i
+μ-loop elements₀ seed base step span x₀ first₀ i₀ elements x first i = length elements - i
 
 loop-holds : tie.Need-loop-holds Inv-loop μ-loop
 loop-holds c = search needs
@@ -22,11 +22,14 @@ next-state-requires c κs = tt
 drawn-element-requires : tie.Need-drawn-element-requires Inv-loop μ-loop
 drawn-element-requires c κs = tt
 
-mul-t7 : tie.Need-mul-t7 Inv-loop μ-loop
-mul-t7 c = search needs
+mul-t9 : tie.Need-mul-t9 Inv-loop μ-loop
+mul-t9 c = search needs
 
 slice-set-from-elements : tie.Need-slice-set-from-elements Inv-loop μ-loop
 slice-set-from-elements c = search needs
+
+stepped-requires : tie.Need-stepped-requires Inv-loop μ-loop
+stepped-requires c κs = tt
 
 add-i : tie.Need-add-i Inv-loop μ-loop
 add-i c = search needs
@@ -52,8 +55,9 @@ fill-elements-spec =
     loop-holds
     next-state-requires
     drawn-element-requires
-    mul-t7
+    mul-t9
     slice-set-from-elements
+    stepped-requires
     add-i
     loop-less
     loop-again
