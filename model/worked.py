@@ -1,14 +1,15 @@
 """Asserts the starred cases of the scope paper's "Worked on squared paper".
 
 Beside them stand inputs on which readings of "Cells and cubes", "Stalls",
-"Weights", "Pixels", "Two tables" and "Refusal numbers" part. Prints nothing if
-all hold.
+"Weights", "Pixels", "Two tables", "The sheet program" and "Refusal numbers" part.
+Prints nothing if all hold.
 """
 
 from itertools import product
 
 import camera
 import pixels
+import sheet
 import weights
 from cube import (Box, CubeLayout, box_positions, element_position, extent, pack, position,
                   read_box, surface_count, unpack, whole_box, write_box)
@@ -42,11 +43,6 @@ def starred():
     assert surface_count(one._replace(channels=16)) == 1
     assert surface_count(one._replace(channels=17)) == 2
     assert extent(CubeLayout(1, 1, 1, 0, 32, 0, 0)) == (3, 0, 0)
-
-
-def record_script():
-    """The values of the paper's sheet example that concern the cube alone."""
-    assert position(EXAMPLE, 33, 1, 1) == (0, 0, 417)
 
 
 def raw_order():
@@ -122,6 +118,43 @@ def region_calls():
     after = edit(table, 5, Box(33, 1, 1, 1, 1, 1), [-2], buffer)[2]
     assert [at for at in range(480) if after[at]] == [449] and after[449] == 254
     assert read(table, 5, Box(33, 1, 0, 1, 1, 2), [9, 9], after) == (0, 0, [0, -2])
+
+
+def sheet_session():
+    """The paper's session, byte for byte, with and without its last newline."""
+    session = (b"frame\t3\t2\t40\t0\t128\t256\t0\nstall\t0\t0\t0\t2\t2\n"
+               b"stall\t1\t1\t0\t2\t1\ncell\t0\t33\t1\t1\n")
+    printed = "line\tanswer\tvalue\n1\t0\t480\n2\t0\t160\n3\t10\t0\n4\t0\t417\n"
+    assert sheet.text(session) == sheet.text(session[:-1]) == printed
+    assert sheet.text(b"") == printed[:18]
+
+
+def sheet_answers(source):
+    """The code and value of each line."""
+    return [(row.code, row.value) for row in sheet.rows(source)]
+
+
+def sheet_lines():
+    """Only byte 10 parts lines, only byte 9 fields; a number has no zero before it and its limit."""
+    unreadable, good = (24, 0), b"frame\t3\t2\t40\t0\t128\t256\t"
+    assert sheet_answers(b"\n") == sheet_answers(b"\0") == [unreadable]
+    assert sheet_answers(b"\n\n") == sheet_answers(b"\r\n\r") == [unreadable] * 2
+    for end in (b"", b"00", b"01", b"0\r", b"0\t", b"0 ", b"-0", b"4294967296", b"0" * 100000):
+        assert sheet_answers(good + end + b"\n" + good + b"0") == [unreadable, (0, 480)]
+    assert sheet_answers(good + b"4294967264\n" + good + b"4294967295") == [(0, 480), (4, 0)]
+
+
+def sheet_frames():
+    """Before an accepted frame a record is 1 whatever its numbers; a refused frame changes nothing."""
+    good, refused = b"frame\t3\t2\t40\t0\t128\t256\t32\n", b"frame\t3\t2\t40\t0\t128\t192\t0\n"
+    stall, cell = b"stall\t15\t0\t0\t2\t2\n", b"cell\t15\t33\t1\t1\n"
+    early = b"stall\t16\t0\t0\t0\t0\ncell\t0\n"
+    assert sheet_answers(early + refused + cell) == [(1, 0), (24, 0), (3, 0), (1, 0)]
+    filled = good + stall
+    assert sheet_answers(filled) == [(0, 480), (0, 160)]
+    assert sheet_answers(filled + refused + stall + cell)[2:] == [(3, 0), (8, 0), (0, 449)]
+    assert sheet_answers(filled + good + cell)[2:] == [(0, 480), (8, 0)]
+    assert sheet_answers(filled + b"cell\t15\t40\t0\t0\ncell\t15\t0\t0\t2\n")[2:] == [(9, 0)] * 2
 
 
 def starred_weights():
@@ -260,13 +293,15 @@ def starred_ready_made():
 
 if __name__ == "__main__":
     starred()
-    record_script()
     raw_order()
     past_32_bits()
     lent_memory()
     boxes()
     placings()
     region_calls()
+    sheet_session()
+    sheet_lines()
+    sheet_frames()
     starred_weights()
     weight_order()
     lent_weights()

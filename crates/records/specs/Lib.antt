@@ -1,0 +1,3 @@
+pub mod Texts
+pub mod Records
+pub mod Passes

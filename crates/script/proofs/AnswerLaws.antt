@@ -1,0 +1,130 @@
+-- A record's answer, value and desk in terms of what the code calls: a refused record changes nothing, an accepted one does what it says. By taking the
+-- definitions of specs/Rows.antt apart. Assumes nothing.
+--     record-refused, record-done                   any record, by its answer
+--     record-unreadable                             a line that is no record
+--     frame-refused, frame-taken                    a frame, by its extent
+--     stall-unframed, stall-refused, stall-placed   a stall, by its placing
+--     cell-unframed, cell-refused, cell-at          a cell, by its position
+--     count-le, count-all-le                        the elements of a placed region, counted in 64 bits
+use Prim.Native.Nat.{ℕ, _*_, _≤_}
+use native.Mathlib.Nat.{mul-le-mul}
+use native.Mathlib.Omega.{arith}
+use mathlib.Core.Path.{_≡_, refl, ap, _∙_}
+use mathlib.Core.Bool.{Bool, true, false, cond}
+use Rattle.refusal.specs.declared.Refusal.{Refusal}
+use Rattle.refusal.specs.declared.Refusal.the-variants.{Size, ScriptLine}
+use Rattle.refusal.specs.declared.Answer.{Answer}
+use Rattle.refusal.specs.declared.Answer.the-variants.{Accepted, Refused}
+use Rattle.refusal.specs.declared.Quantity.the-variants.{Is, Denied}
+use Rattle.refusal.specs.Checks.{leaves, quantity}
+use Rattle.layout.specs.declared.CubeLayout.{CubeLayout}
+use Rattle.layout.specs.Calls.{extentQuantity}
+use Rattle.regions.specs.declared.RegionTable.{RegionTable}
+use Rattle.regions.specs.Slots.{rectangle, slotsOf}
+use Rattle.regions.specs.Calls.{emptyTable, placeAnswer, placeTable, regionPosition}
+use Rattle.regions.proofs.RuleLaws.{place-accepted, rectangle-columns, rectangle-rows}
+use Rattle.records.specs.declared.Record.{Record}
+use Rattle.records.specs.declared.Record.the-variants.{Frame, Stall, Cell, Unreadable}
+use Rattle.script.specs.declared.After.{After}
+use Rattle.script.specs.Rows.{Desk, framedOr, recordAnswer, recordValue, recordDone, valueAfter, deskAfter}
+use Rattle.script.specs.Steps.{afterRecord, refusedRecord}
+
+-- ---- a quantity, back to its answer
+denied : (a : Answer) (n : ℕ) {x : Refusal} {i : ℕ} → quantity a n ≡ Denied x i → a ≡ Refused x i
+unfolding quantity
+denied Accepted n e = cc
+denied (Refused y j) n e = cc
+
+accepted : (a : Answer) (n : ℕ) {v : ℕ} → quantity a n ≡ Is v → a ≡ Accepted
+unfolding quantity
+accepted Accepted n e = refl
+accepted (Refused y j) n e = cc
+
+value-is : (a : Answer) (n : ℕ) {v : ℕ} → quantity a n ≡ Is v → v ≡ n
+unfolding quantity
+value-is Accepted n e = cc
+value-is (Refused y j) n e = cc
+
+module _ (d : Desk) where
+  -- ---- any record
+  pub record-refused : (r : Record) {x : Refusal} {i : ℕ} → recordAnswer d r ≡ Refused x i → refusedRecord d x i ≡ afterRecord d r
+  unfolding afterRecord valueAfter deskAfter leaves
+  record-refused r e = rw e
+
+  pub record-done : (r : Record) {v : ℕ} → recordAnswer d r ≡ Accepted → v ≡ recordValue d r
+      → _≡_ {A = After} (record { answer = Accepted; value = v; framed = recordDone d r .framed; table = recordDone d r .table }) (afterRecord d r)
+  unfolding afterRecord valueAfter deskAfter leaves
+  record-done r e h = rw (e, h)
+
+  pub record-unreadable : refusedRecord d ScriptLine 0 ≡ afterRecord d Unreadable
+  unfolding recordAnswer
+  record-unreadable = record-refused Unreadable refl
+
+  -- ---- frame
+  abbrev pub frameOf : CubeLayout → Record
+  frameOf q = Frame (q .width) (q .height) (q .channels) (q .precision) (q .line) (q .surface) (q .start)
+
+  module _ (q : CubeLayout) where
+    pub frame-refused : {x : Refusal} {i : ℕ} → extentQuantity q ≡ Denied x i → refusedRecord d x i ≡ afterRecord d (frameOf q)
+    unfolding extentQuantity recordAnswer
+    frame-refused e = record-refused (frameOf q) (denied _ _ e)
+
+    pub frame-taken : {v : ℕ} → extentQuantity q ≡ Is v → _≡_ {A = After} (record { answer = Accepted; value = v; framed = true; table = emptyTable q }) (afterRecord d (frameOf q))
+    unfolding extentQuantity recordAnswer recordValue recordDone
+    frame-taken e = record-done (frameOf q) (accepted _ _ e) (value-is _ _ e)
+
+  -- ---- a record before a frame, and after one
+  pub unframed : (a : Answer) → d .framed ≡ false → framedOr d a ≡ Refused Size 0
+  unfolding framedOr
+  unframed a e = ap (λ (t : Bool). cond t a (Refused Size 0)) e
+
+  framed-is : (a : Answer) → d .framed ≡ true → framedOr d a ≡ a
+  unfolding framedOr
+  framed-is a e = ap (λ (t : Bool). cond t a (Refused Size 0)) e
+
+  -- ---- stall
+  module _ (slot w0 h0 w h : ℕ) where
+    pub stall-unframed : d .framed ≡ false → refusedRecord d Size 0 ≡ afterRecord d (Stall slot w0 h0 w h)
+    unfolding recordAnswer
+    stall-unframed e = record-refused (Stall slot w0 h0 w h) (unframed _ e)
+
+    module _ (f : d .framed ≡ true) where
+      pub stall-refused : {x : Refusal} {i : ℕ} → placeAnswer (d .table) slot (rectangle w0 h0 w h) ≡ Refused x i → refusedRecord d x i ≡ afterRecord d (Stall slot w0 h0 w h)
+      unfolding recordAnswer
+      stall-refused e = record-refused (Stall slot w0 h0 w h) (framed-is _ f ∙ e)
+
+      pub stall-placed : {v : ℕ} {t : RegionTable} → placeAnswer (d .table) slot (rectangle w0 h0 w h) ≡ Accepted → v ≡ w * h * d .table .layout .channels
+          → t ≡ placeTable (d .table) slot (rectangle w0 h0 w h)
+          → _≡_ {A = After} (record { answer = Accepted; value = v; framed = d .framed; table = t }) (afterRecord d (Stall slot w0 h0 w h))
+      unfolding recordAnswer recordValue recordDone
+      stall-placed {v} e i p =
+          ap (λ (u : RegionTable). record { answer = Accepted; value = v; framed = d .framed; table = u }) p ∙ record-done (Stall slot w0 h0 w h) (framed-is _ f ∙ e) i
+
+  -- ---- cell
+  module _ (slot c h w : ℕ) where
+    pub cell-unframed : d .framed ≡ false → refusedRecord d Size 0 ≡ afterRecord d (Cell slot c h w)
+    unfolding recordAnswer
+    cell-unframed e = record-refused (Cell slot c h w) (unframed _ e)
+
+    module _ (f : d .framed ≡ true) where
+      pub cell-refused : {x : Refusal} {i : ℕ} → regionPosition (d .table) slot c h w ≡ Denied x i → refusedRecord d x i ≡ afterRecord d (Cell slot c h w)
+      unfolding recordAnswer regionPosition
+      cell-refused e = record-refused (Cell slot c h w) (framed-is _ f ∙ denied _ _ e)
+
+      pub cell-at : {v : ℕ} → regionPosition (d .table) slot c h w ≡ Is v
+          → _≡_ {A = After} (record { answer = Accepted; value = v; framed = d .framed; table = d .table }) (afterRecord d (Cell slot c h w))
+      unfolding recordAnswer recordValue recordDone regionPosition
+      cell-at e = record-done (Cell slot c h w) (framed-is _ f ∙ accepted _ _ e) (value-is _ _ e)
+
+-- ---- the elements of a placed region
+module _ (t : RegionTable) (slot w0 h0 w h : ℕ) (ok : placeAnswer t slot (rectangle w0 h0 w h) ≡ Accepted) where
+  pub count-le : w * h ≤ 8192 * 8192
+  unfolding placeAnswer
+  count-le =
+      let g = rectangle w0 h0 w h in
+      let p = place-accepted (t .layout) (slotsOf t) slot g ok in
+      mul-le-mul {n₁ = w} {m₁ = h} {n₂ = 8192} {m₂ = 8192} (omega (arith, p .layout .width-le, rectangle-columns (t .layout) g (p .inside) .fit)) (omega (arith, p .layout .height-le, rectangle-rows (t .layout) g (p .inside) .fit))
+
+  pub count-all-le : w * h * t .layout .channels ≤ 8192 * 8192 * 8192
+  unfolding placeAnswer
+  count-all-le = mul-le-mul count-le (place-accepted (t .layout) (slotsOf t) slot (rectangle w0 h0 w h) ok .layout .channels-le)

@@ -1,0 +1,66 @@
+-- Sheets, computed: the paper's session, and records that are refused. Assumes nothing.
+use Prim.Native.Nat.{ℕ}
+use mathlib.Core.Path.{_≡_, refl}
+use mathlib.Core.List.{List, [], _∷_, _++_, map}
+use Rattle.refusal.specs.Codes.{answerCode}
+use Rattle.refusal.specs.Checks.{requireAt, inOrder, leaves}
+use Rattle.elements.specs.Bytes.{elementBytes}
+use Rattle.layout.specs.Geometry.{surfaces, elementPosition, cubeExtent}
+use Rattle.layout.specs.Boxes.{spanInside, spanHas}
+use Rattle.layout.specs.Rules.{sizeTaken, sizesTaken, wholeAtoms, stridesTaken, layoutChecks}
+use Rattle.regions.specs.Slots.{slotOf, slotsOf, rectangleHas, taken, anyFrom, overlaps, rectangleInside}
+use Rattle.regions.specs.Rules.{slotAt, isFilled, rectangleOf, placeChecks, boxInRectangle, areaChecks}
+use Rattle.regions.specs.Calls.{placeAnswer, placeTable}
+use Rattle.records.specs.Texts.{before, split, fieldsOf, withoutEmptyLast, linesOf, isDigit, allDigits, valueAfter as digitsAfter, isEmpty, wellBegun, numberOf}
+use Rattle.records.specs.Records.{andNumber, numbersOf, sameText, frameWord, stallWord, cellWord, shaped, byWord, byFields, recordOf}
+use Rattle.script.specs.declared.Row.{Row}
+use Rattle.script.specs.Rows.{framedOr, recordAnswer, recordValue, recordDone, valueAfter, deskAfter}
+use Rattle.script.specs.Sheets.{nextLine, rowOf, rowsAfter, sheet}
+
+-- what a row prints: line, answer and value
+abbrev printed : List ℕ → List (List ℕ)
+printed input = map (λ (r : Row). r .line ∷ answerCode (r .answer) ∷ r .value ∷ []) (sheet input)
+
+-- frame 3 2 40 0 128 256 0
+abbrev frame : List ℕ
+frame = frameWord ++ 9 ∷ 51 ∷ 9 ∷ 50 ∷ 9 ∷ 52 ∷ 48 ∷ 9 ∷ 48 ∷ 9 ∷ 49 ∷ 50 ∷ 56 ∷ 9 ∷ 50 ∷ 53 ∷ 54 ∷ 9 ∷ 48 ∷ 10 ∷ []
+
+-- frame 0 2 40 0 128 256 0
+abbrev noFrame : List ℕ
+noFrame = frameWord ++ 9 ∷ 48 ∷ 9 ∷ 50 ∷ 9 ∷ 52 ∷ 48 ∷ 9 ∷ 48 ∷ 9 ∷ 49 ∷ 50 ∷ 56 ∷ 9 ∷ 50 ∷ 53 ∷ 54 ∷ 9 ∷ 48 ∷ 10 ∷ []
+
+-- stall 0 0 0 2 2
+abbrev stall : List ℕ
+stall = stallWord ++ 9 ∷ 48 ∷ 9 ∷ 48 ∷ 9 ∷ 48 ∷ 9 ∷ 50 ∷ 9 ∷ 50 ∷ 10 ∷ []
+
+-- stall 1 1 0 2 1
+abbrev overlapping : List ℕ
+overlapping = stallWord ++ 9 ∷ 49 ∷ 9 ∷ 49 ∷ 9 ∷ 48 ∷ 9 ∷ 50 ∷ 9 ∷ 49 ∷ 10 ∷ []
+
+-- cell 0 33 1 1, with no newline
+abbrev cell : List ℕ
+cell = cellWord ++ 9 ∷ 48 ∷ 9 ∷ 51 ∷ 51 ∷ 9 ∷ 49 ∷ 9 ∷ 49 ∷ []
+
+-- cell 5 0 0 0, in an empty slot
+abbrev unplaced : List ℕ
+unplaced = cellWord ++ 9 ∷ 53 ∷ 9 ∷ 48 ∷ 9 ∷ 48 ∷ 9 ∷ 48 ∷ 10 ∷ []
+
+-- cell 0 0 0 2, a column past the stall
+abbrev outside : List ℕ
+outside = cellWord ++ 9 ∷ 48 ∷ 9 ∷ 48 ∷ 9 ∷ 48 ∷ 9 ∷ 50 ∷ 10 ∷ []
+
+pub record Computed : Type 0 where
+  pub session : printed (frame ++ stall ++ overlapping ++ cell) ≡ (1 ∷ 0 ∷ 480 ∷ []) ∷ (2 ∷ 0 ∷ 160 ∷ []) ∷ (3 ∷ 10 ∷ 0 ∷ []) ∷ (4 ∷ 0 ∷ 417 ∷ []) ∷ []
+  -- a last newline adds no line
+  pub ended : printed (frame ++ stall ++ overlapping ++ cell ++ 10 ∷ []) ≡ (1 ∷ 0 ∷ 480 ∷ []) ∷ (2 ∷ 0 ∷ 160 ∷ []) ∷ (3 ∷ 10 ∷ 0 ∷ []) ∷ (4 ∷ 0 ∷ 417 ∷ []) ∷ []
+  -- a stall before a frame, an empty line, and a second frame that is refused: the first stays, with its stall
+  pub refused : printed (stall ++ 10 ∷ [] ++ frame ++ stall ++ noFrame ++ unplaced ++ outside ++ cell)
+      ≡ (1 ∷ 1 ∷ 0 ∷ []) ∷ (2 ∷ 24 ∷ 0 ∷ []) ∷ (3 ∷ 0 ∷ 480 ∷ []) ∷ (4 ∷ 0 ∷ 160 ∷ []) ∷ (5 ∷ 1 ∷ 0 ∷ []) ∷ (6 ∷ 8 ∷ 0 ∷ []) ∷ (7 ∷ 9 ∷ 0 ∷ []) ∷ (8 ∷ 0 ∷ 417 ∷ []) ∷ []
+  -- an accepted second frame empties the slots
+  pub emptied : printed (frame ++ stall ++ frame ++ cell) ≡ (1 ∷ 0 ∷ 480 ∷ []) ∷ (2 ∷ 0 ∷ 160 ∷ []) ∷ (3 ∷ 0 ∷ 480 ∷ []) ∷ (4 ∷ 8 ∷ 0 ∷ []) ∷ []
+  -- no input, no rows
+  pub none : printed [] ≡ []
+
+pub computed : Computed
+unfolding requireAt inOrder leaves elementBytes surfaces elementPosition cubeExtent spanInside spanHas sizeTaken sizesTaken wholeAtoms stridesTaken layoutChecks slotOf slotsOf rectangleHas taken anyFrom overlaps rectangleInside slotAt isFilled rectangleOf placeChecks boxInRectangle areaChecks placeAnswer placeTable before split fieldsOf withoutEmptyLast linesOf isDigit allDigits digitsAfter isEmpty wellBegun numberOf andNumber numbersOf sameText shaped byWord byFields recordOf framedOr recordAnswer recordValue recordDone valueAfter deskAfter nextLine rowOf rowsAfter sheet
+computed = record { session = refl; ended = refl; refused = refl; emptied = refl; none = refl }

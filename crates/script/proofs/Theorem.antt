@@ -1,0 +1,67 @@
+-- The theorem about the whole input (scope paper, "The sheet program"). `rowsOfParts` folds the very definitions that the contracts of `begin`, `feed` and
+-- `finish` cite, over parts of any number and size, empty ones too; `sheet` has no parts and no state, only lines and records. Each proof cites
+-- PartLaws.antt, CutLaws.antt, RowLaws.antt or AnswerLaws.antt. Assumes nothing.
+use Prim.Native.Nat.{ℕ, _+_, _%_, _^_, _≤_, _<_}
+use native.Mathlib.Nat.{zero-add}
+use mathlib.Core.Path.{_≡_, sym, ap, _∙_}
+use mathlib.Core.Bool.{true, false}
+use mathlib.Core.List.{List, map, flatten}
+use lib.ListN.{length, getD}
+use Rattle.refusal.specs.declared.Refusal.{Refusal}
+use Rattle.refusal.specs.declared.Refusal.the-variants.{Size}
+use Rattle.refusal.specs.declared.Answer.the-variants.{Accepted, Refused}
+use Rattle.regions.specs.Calls.{emptyTable}
+use Rattle.records.specs.declared.Record.{Record}
+use Rattle.records.specs.declared.Record.the-variants.{Frame, Stall, Cell}
+use Rattle.records.specs.Texts.{linesOf}
+use Rattle.script.specs.declared.Sheet.{Sheet}
+use Rattle.script.specs.declared.Row.{Row}
+use Rattle.script.specs.Rows.{Desk, startDesk, layoutOf, recordAnswer, recordDone, valueAfter, deskAfter}
+use Rattle.script.specs.Sheets.{sheet}
+use Rattle.script.specs.Feed.{startSheet, fed, partRows, rowsOfParts}
+use Rattle.script.proofs.AnswerLaws as answers
+use Rattle.script.proofs.CutLaws as cut
+use Rattle.script.proofs.PartLaws as part
+use Rattle.script.proofs.RowLaws as row
+
+-- however the input is cut into parts, the calls give the rows of the whole input
+pub however-cut : (parts : List (List ℕ)) → rowsOfParts startSheet parts ≡ sheet (flatten parts)
+however-cut parts = part.rows-parts parts startSheet ∙ cut.rows-sheet (flatten parts)
+
+-- two ways to cut one input give the same rows
+pub same-rows : (parts others : List (List ℕ)) → flatten parts ≡ flatten others → rowsOfParts startSheet parts ≡ rowsOfParts startSheet others
+same-rows parts others e = however-cut parts ∙ ap sheet e ∙ sym (however-cut others)
+
+-- a call reads no more than it was given, and a byte at least if it was given one
+pub reads : (s : Sheet) (bytes : List ℕ) → (fed s bytes .read ≤ length bytes) × (0 < length bytes → 0 < fed s bytes .read)
+reads s bytes = (part.read-within s bytes, part.read-some s bytes)
+
+-- so a part takes at most as many calls as it has bytes: further calls with nothing left give nothing
+pub calls-enough : (calls : ℕ) (s : Sheet) (bytes : List ℕ) (rest : Sheet → List Row) → length bytes ≤ calls → partRows calls s bytes rest ≡ partRows (length bytes) s bytes rest
+calls-enough calls s bytes rest h = part.calls-enough rest calls s bytes h
+
+-- a row for each line, an empty last one left out
+pub row-count : (input : List ℕ) → length (sheet input) ≡ length (linesOf input)
+unfolding sheet
+row-count input = row.rows-count 0 startDesk (linesOf input)
+
+-- the lines are counted from 1
+pub row-number : (input : List ℕ) (k : ℕ) → k < length (linesOf input) → getD (map row.numberOf (sheet input)) k 0 ≡ (k + 1) % 2 ^ 64
+unfolding sheet
+row-number input k h = row.rows-number 0 startDesk (linesOf input) k h ∙ ap (λ (n : ℕ). (n + 1) % 2 ^ 64) (zero-add k)
+
+-- a refused record, a frame too, leaves the frame and the slots, and its value is 0
+pub refused-changes-nothing : (d : Desk) (r : Record) {x : Refusal} {i : ℕ} → recordAnswer d r ≡ Refused x i → (deskAfter d r ≡ d) × (valueAfter d r ≡ 0)
+refused-changes-nothing d r e = (row.refused-desk d r e, row.refused-value d r e)
+
+-- an accepted frame is the frame, and empties the slots
+pub frame-empties : (d : Desk) (w h c p line surface start : ℕ) → recordAnswer d (Frame w h c p line surface start) ≡ Accepted
+    → deskAfter d (Frame w h c p line surface start) ≡ record { framed = true; table = emptyTable (layoutOf w h c p line surface start) }
+unfolding recordDone
+frame-empties d w h c p line surface start e = row.accepted-desk d (Frame w h c p line surface start) e
+
+-- before an accepted frame a stall or a cell gets 1, whatever its numbers
+pub before-a-frame : (d : Desk) → d .framed ≡ false
+    → ((slot w0 h0 w h : ℕ) → recordAnswer d (Stall slot w0 h0 w h) ≡ Refused Size 0) × ((slot c h w : ℕ) → recordAnswer d (Cell slot c h w) ≡ Refused Size 0)
+unfolding recordAnswer
+before-a-frame d f = (λ slot w0 h0 w h. answers.unframed d _ f, λ slot c h w. answers.unframed d _ f)

@@ -1,0 +1,4 @@
+pub mod Rows
+pub mod Sheets
+pub mod Feed
+pub mod Steps
