@@ -6,13 +6,14 @@ use lib.ListN.{length, getD}
 use lib.IntN.{pos, negsuc}
 use Rattle.refusal.specs.declared.Answer.the-variants.{Accepted}
 use Rattle.refusal.specs.Codes.{answerCode, answerPlace}
+use Rattle.refusal.specs.Sizes.{sizeTaken}
 use Rattle.refusal.specs.Checks.{requireAt, inOrder, leaves}
 use Rattle.elements.specs.Bytes.{elementBytes, byteOf, wordAt, signed, elementAt}
 use Rattle.elements.specs.Lists.{remadeFrom, remade, tabulateFrom, tabulate}
 use Rattle.elements.specs.Values.{valueTaken, valueCheck, valueChecksFrom, valueChecks}
 use Rattle.layout.specs.Geometry.{elementCount, rawIndex, surfaces, elementPosition, cubeExtent}
 use Rattle.layout.specs.Boxes.{boxCount, spanInside, spanHas, boxHas, boxIndex, channelAt, rowAt, columnAt}
-use Rattle.layout.specs.Rules.{sizeTaken, sizesTaken, wholeAtoms, stridesTaken, layoutChecks, storageChecks, cubeChecks}
+use Rattle.layout.specs.Rules.{sizesTaken, wholeAtoms, stridesTaken, layoutChecks, storageChecks, cubeChecks}
 use Rattle.layout.specs.Owners.{surfaceOf, rowOf, columnOf, byteInAtom, inAtom, atomOwner, owner}
 use Rattle.layout.specs.Contents.{packedByte, packed, editedByte, edited, storedElement, boxElements}
 use Rattle.layout.specs.Calls.{packAnswer, packBuffer}

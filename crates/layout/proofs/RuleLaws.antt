@@ -1,5 +1,4 @@
 -- The rules and the orders of checks as the code goes through them, one test after another. Assumes nothing.
---     size-small, size-large                 one size
 --     sizes-width, sizes-height, sizes-channels     the three sizes
 --     strides-line .. strides-last           the strides
 --     check-sizes .. check-taken             checks 1 to 4
@@ -21,16 +20,10 @@ use Rattle.refusal.proofs.CheckLaws.{inOrder-nil, inOrder-next, inOrder-stop}
 use Rattle.layout.specs.declared.CubeLayout.{CubeLayout}
 use Rattle.layout.specs.declared.ElementBox.{ElementBox}
 use Rattle.layout.specs.Boxes.{spanInside, boxInside}
-use Rattle.layout.specs.Rules.{sizeTaken, sizesTaken, wholeAtoms, stridesTaken, layoutChecks}
+use Rattle.refusal.specs.Sizes.{sizeTaken}
+use Rattle.refusal.proofs.SizeLaws.{size-pos, size-le}
+use Rattle.layout.specs.Rules.{sizesTaken, wholeAtoms, stridesTaken, layoutChecks}
 use Rattle.refusal.proofs.TestLaws.{and-left, and-right}
-
-pub size-small : (n : ℕ) → n < 1 → false ≡ sizeTaken n
-unfolding sizeTaken
-size-small n h = rw (lt-leb 1 n h)
-
-pub size-large : (n : ℕ) → 1 ≤ n → leb n 8192 ≡ sizeTaken n
-unfolding sizeTaken
-size-large n h = rw (le-leb 1 n h)
 
 module _ (w h line surface : ℕ) where
   pub strides-line : (line % 32 ≡ 0 → ⊥) → false ≡ stridesTaken w h line surface
@@ -56,15 +49,15 @@ pub lines-fit : (w h line : ℕ) → w ≤ 8192 → h ≤ 8192 → line < 2 ^ 32
 lines-fit w h line hw hh hl = omega (arith, mul-le-mul {n₁ = h - 1} {m₁ = line} {n₂ = 8192} {m₂ = 2 ^ 32} (omega arith) (omega arith))
 
 module _ (q : CubeLayout) where
-  pub sizes-width : sizeTaken (q .width) ≡ false → false ≡ sizesTaken q
+  pub sizes-width : sizeTaken 8192 (q .width) ≡ false → false ≡ sizesTaken q
   unfolding sizesTaken
   sizes-width e = rw e
 
-  pub sizes-height : sizeTaken (q .width) ≡ true → sizeTaken (q .height) ≡ false → false ≡ sizesTaken q
+  pub sizes-height : sizeTaken 8192 (q .width) ≡ true → sizeTaken 8192 (q .height) ≡ false → false ≡ sizesTaken q
   unfolding sizesTaken
   sizes-height w e = rw (w, e)
 
-  pub sizes-channels : sizeTaken (q .width) ≡ true → sizeTaken (q .height) ≡ true → sizeTaken (q .channels) ≡ sizesTaken q
+  pub sizes-channels : sizeTaken 8192 (q .width) ≡ true → sizeTaken 8192 (q .height) ≡ true → sizeTaken 8192 (q .channels) ≡ sizesTaken q
   unfolding sizesTaken
   sizes-channels w h = rw (w, h)
 
@@ -75,16 +68,16 @@ module _ (q : CubeLayout) where
     pub height-le : q .height ≤ 8192
 
   pub sizes : sizesTaken q ≡ true → Sizes
-  unfolding sizesTaken sizeTaken
+  unfolding sizesTaken
   sizes e =
-      let w = sizeTaken (q .width) in
-      let h = sizeTaken (q .height) in
-      let c = sizeTaken (q .channels) in
+      let w = sizeTaken 8192 (q .width) in
+      let h = sizeTaken 8192 (q .height) in
+      let c = sizeTaken 8192 (q .channels) in
       let wh = and-left (w && h) c e in
       record {
-        width-le = leb-true (q .width) 8192 (and-right (leb 1 (q .width)) (leb (q .width) 8192) (and-left w h wh));
-        height-pos = leb-true 1 (q .height) (and-left (leb 1 (q .height)) (leb (q .height) 8192) (and-right w h wh));
-        height-le = leb-true (q .height) 8192 (and-right (leb 1 (q .height)) (leb (q .height) 8192) (and-right w h wh));
+        width-le = size-le 8192 (q .width) (and-left w h wh);
+        height-pos = size-pos 8192 (q .height) (and-right w h wh);
+        height-le = size-le 8192 (q .height) (and-right w h wh);
       }
 
   r4 : List Answer

@@ -13,7 +13,9 @@ use Rattle.refusal.specs.Checks.{inOrder, require}
 use Rattle.refusal.proofs.CheckLaws.{inOrder-held, inOrder-rest}
 use Rattle.refusal.proofs.TestLaws.{and-left, and-right}
 use Rattle.layout.specs.declared.CubeLayout.{CubeLayout}
-use Rattle.layout.specs.Rules.{sizeTaken, sizesTaken, wholeAtoms, stridesTaken, layoutChecks}
+use Rattle.refusal.specs.Sizes.{sizeTaken}
+use Rattle.refusal.proofs.SizeLaws.{size-pos, size-le}
+use Rattle.layout.specs.Rules.{sizesTaken, wholeAtoms, stridesTaken, layoutChecks}
 
 pub record Taken (q : CubeLayout) : Type 0 where
   pub width-pos : 0 < q .width
@@ -28,14 +30,6 @@ pub record Taken (q : CubeLayout) : Type 0 where
   pub line-ge : 32 * q .width ≤ q .line
   pub surface-ge : (q .height - 1) * q .line + 32 * q .width ≤ q .surface
   pub start-atoms : q .start % 32 ≡ 0
-
-size-pos : (n : ℕ) → sizeTaken n ≡ true → 0 < n
-unfolding sizeTaken
-size-pos n e = leb-true 1 n (and-left (leb 1 n) (leb n 8192) e)
-
-size-le : (n : ℕ) → sizeTaken n ≡ true → n ≤ 8192
-unfolding sizeTaken
-size-le n e = leb-true n 8192 (and-right (leb 1 n) (leb n 8192) e)
 
 atoms : (n : ℕ) → wholeAtoms n ≡ true → n % 32 ≡ 0
 unfolding wholeAtoms
@@ -73,10 +67,10 @@ pub taken : (q : CubeLayout) → inOrder (layoutChecks q) ≡ Accepted → Taken
 unfolding stridesTaken sizesTaken
 taken q e =
     let t = tests q e in
-    let wh = and-left (sizeTaken (q .width) && sizeTaken (q .height)) (sizeTaken (q .channels)) (t .sizes) in
-    let w = and-left (sizeTaken (q .width)) (sizeTaken (q .height)) wh in
-    let h = and-right (sizeTaken (q .width)) (sizeTaken (q .height)) wh in
-    let c = and-right (sizeTaken (q .width) && sizeTaken (q .height)) (sizeTaken (q .channels)) (t .sizes) in
+    let wh = and-left (sizeTaken 8192 (q .width) && sizeTaken 8192 (q .height)) (sizeTaken 8192 (q .channels)) (t .sizes) in
+    let w = and-left (sizeTaken 8192 (q .width)) (sizeTaken 8192 (q .height)) wh in
+    let h = and-right (sizeTaken 8192 (q .width)) (sizeTaken 8192 (q .height)) wh in
+    let c = and-right (sizeTaken 8192 (q .width) && sizeTaken 8192 (q .height)) (sizeTaken 8192 (q .channels)) (t .sizes) in
     let la = wholeAtoms (q .line) in
     let sa = wholeAtoms (q .surface) in
     let lg = leb (32 * q .width) (q .line) in
@@ -84,12 +78,12 @@ taken q e =
     let s1 = and-left (la && sa && lg) sg (t .strides) in
     let s2 = and-left (la && sa) lg s1 in
     record {
-      width-pos = size-pos (q .width) w;
-      width-le = size-le (q .width) w;
-      height-pos = size-pos (q .height) h;
-      height-le = size-le (q .height) h;
-      channels-pos = size-pos (q .channels) c;
-      channels-le = size-le (q .channels) c;
+      width-pos = size-pos 8192 (q .width) w;
+      width-le = size-le 8192 (q .width) w;
+      height-pos = size-pos 8192 (q .height) h;
+      height-le = size-le 8192 (q .height) h;
+      channels-pos = size-pos 8192 (q .channels) c;
+      channels-le = size-le 8192 (q .channels) c;
       precision-lt = ltb-true (q .precision) 3 (t .precision);
       line-atoms = atoms (q .line) (and-left la sa s2);
       surface-atoms = atoms (q .surface) (and-right la sa s2);

@@ -6,18 +6,15 @@ use lib.Dec.{leb, ltb, eqb}
 use Rattle.refusal.specs.declared.Refusal.the-variants.{Size, Precision, CubeStrides, CubeStart, BufferLength, ElementCount, Bounds}
 use Rattle.refusal.specs.declared.Answer.{Answer}
 use Rattle.refusal.specs.Checks.{require}
+use Rattle.refusal.specs.Sizes.{sizeTaken}
 use Rattle.layout.specs.declared.CubeLayout.{CubeLayout}
 use Rattle.layout.specs.declared.ElementBox.{ElementBox}
 use Rattle.layout.specs.Geometry.{elementCount, cubeExtent}
 use Rattle.layout.specs.Boxes.{boxCount, boxInside}
 
--- 1 to 8192
-unfoldable pub sizeTaken : ℕ → Bool
-sizeTaken n = leb 1 n && leb n 8192
-
--- width, height and channels
+-- width, height and channels, each 1 to 8192
 unfoldable pub sizesTaken : CubeLayout → Bool
-sizesTaken q = sizeTaken (q .width) && sizeTaken (q .height) && sizeTaken (q .channels)
+sizesTaken q = sizeTaken 8192 (q .width) && sizeTaken 8192 (q .height) && sizeTaken 8192 (q .channels)
 
 -- a multiple of 32
 unfoldable pub wholeAtoms : ℕ → Bool

@@ -1,32 +1,22 @@
 // The rules behind the checks, one function each.
 ghost use mathlib.Core.Path.{_≡_};
 ghost use Prim.Native.Nat.{_≤_, _<_};
-ghost use Rattle.layout.specs.Rules.{sizeTaken, sizesTaken, stridesTaken};
+ghost use Rattle.layout.specs.Rules.{sizesTaken, stridesTaken};
 ghost use Rattle.layout.specs.Boxes.{spanInside, boxInside};
 use crate::CubeLayout;
 use crate::ElementBox;
-
-// 1 to 8192.
-fn size_taken(n: u32) -> bool
-    ensures { λ r. ⌜ r ≡ sizeTaken n ⌝ }
-{
-    if n < 1 {
-        return false;
-    }
-    n <= 8192
-}
 
 // Width, height and channels.
 pub(crate) fn sizes_taken(layout: CubeLayout) -> bool
     ensures { λ r. ⌜ r ≡ sizesTaken layout ⌝ }
 {
-    if !size_taken(layout.width) {
+    if !refusal::size_taken(8192, layout.width) {
         return false;
     }
-    if !size_taken(layout.height) {
+    if !refusal::size_taken(8192, layout.height) {
         return false;
     }
-    size_taken(layout.channels)
+    refusal::size_taken(8192, layout.channels)
 }
 
 // Multiples of 32; a line holds its atoms, a surface its lines.

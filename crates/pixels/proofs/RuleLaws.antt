@@ -1,5 +1,4 @@
 -- The rules as the code goes through them, one test after another. Assumes nothing.
---     size-small, size-large                         one size
 --     kind-channels, kind-precision                  channels and precision
 --     strides-start, strides-line, strides-room      start and line
 use Prim.Native.Nat.{ℕ, _+_, _*_, _%_, _≤_, _<_}
@@ -10,15 +9,7 @@ use borrow.Author.Tests.{le-leb, lt-leb, eq-eqb, ne-eqb}
 use Rattle.pixels.specs.declared.PixelFormat.{PixelFormat}
 use Rattle.pixels.specs.declared.PixelSetting.{PixelSetting}
 use Rattle.pixels.specs.Formats.{formatOf}
-use Rattle.pixels.specs.Settings.{pixelBytes, sizeTaken, kindTaken, stridesTaken}
-
-pub size-small : (n : ℕ) → n < 1 → false ≡ sizeTaken n
-unfolding sizeTaken
-size-small n h = rw (lt-leb 1 n h)
-
-pub size-large : (n : ℕ) → 1 ≤ n → leb n 8192 ≡ sizeTaken n
-unfolding sizeTaken
-size-large n h = rw (le-leb 1 n h)
+use Rattle.pixels.specs.Settings.{pixelBytes, kindTaken, stridesTaken}
 
 -- the format of the setting's code, as it was looked up
 module _ (q : PixelSetting) {f : PixelFormat} (e : f ≡ formatOf (q .format)) where

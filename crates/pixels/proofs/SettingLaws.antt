@@ -14,7 +14,8 @@ use Rattle.refusal.specs.Checks.{require, inOrder}
 use Rattle.refusal.proofs.CheckLaws.{inOrder-nil, inOrder-next, inOrder-stop, inOrder-passed, inOrder-refused, quantity-is, quantity-denied}
 use Rattle.pixels.specs.declared.PixelSetting.{PixelSetting}
 use Rattle.pixels.specs.Formats.{formatOf}
-use Rattle.pixels.specs.Settings.{sizeTaken, kindTaken, stridesTaken, settingChecks, settingAnswer, pixelPosition, positionQuantity}
+use Rattle.refusal.specs.Sizes.{sizeTaken}
+use Rattle.pixels.specs.Settings.{kindTaken, stridesTaken, settingChecks, settingAnswer, pixelPosition, positionQuantity}
 
 -- ---- the checks, in their order
 
@@ -24,16 +25,16 @@ module _ (q : PixelSetting) where
   check-format h = sym (inOrder-stop 0 FormatCode _ (lt-leb (q .format) 16 h))
 
   module _ (known : q .format ≤ 16) where
-    pub check-width : sizeTaken (q .width) ≡ false → Refused Size 0 ≡ settingAnswer q
+    pub check-width : sizeTaken 8192 (q .width) ≡ false → Refused Size 0 ≡ settingAnswer q
     unfolding settingAnswer settingChecks
     check-width e = sym (inOrder-next 0 FormatCode _ (le-leb (q .format) 16 known) ∙ inOrder-stop 0 Size _ (rw e))
 
-    module _ (wide : sizeTaken (q .width) ≡ true) where
-      pub check-height : sizeTaken (q .height) ≡ false → Refused Size 0 ≡ settingAnswer q
+    module _ (wide : sizeTaken 8192 (q .width) ≡ true) where
+      pub check-height : sizeTaken 8192 (q .height) ≡ false → Refused Size 0 ≡ settingAnswer q
       unfolding settingAnswer settingChecks
       check-height e = sym (inOrder-next 0 FormatCode _ (le-leb (q .format) 16 known) ∙ inOrder-stop 0 Size _ (rw (wide, e)))
 
-      module _ (high : sizeTaken (q .height) ≡ true) where
+      module _ (high : sizeTaken 8192 (q .height) ≡ true) where
         pub check-kind : kindTaken q ≡ false → Refused PixelKind 0 ≡ settingAnswer q
         unfolding settingAnswer settingChecks
         check-kind e =

@@ -13,7 +13,9 @@ use Rattle.refusal.proofs.CheckLaws.{inOrder-held, inOrder-rest}
 use Rattle.refusal.proofs.TestLaws.{and-left, and-right}
 use Rattle.pixels.specs.declared.PixelSetting.{PixelSetting}
 use Rattle.pixels.specs.Formats.{formatOf}
-use Rattle.pixels.specs.Settings.{pixelBytes, sizeTaken, kindTaken, stridesTaken, settingChecks, settingAnswer}
+use Rattle.refusal.specs.Sizes.{sizeTaken}
+use Rattle.refusal.proofs.SizeLaws.{size-pos, size-le, size-true}
+use Rattle.pixels.specs.Settings.{pixelBytes, kindTaken, stridesTaken, settingChecks, settingAnswer}
 use Rattle.pixels.proofs.SettingLaws.{check-taken}
 
 -- 1 to 8192
@@ -33,13 +35,12 @@ pub record Taken (q : PixelSetting) : Type 0 where
   pub line-whole : q .line % 32 ≡ 0
   pub room : (q .offset + q .width) * pixelBytes q ≤ q .line
 
-size-taken : (n : ℕ) → sizeTaken n ≡ true → SizeTaken n
-unfolding sizeTaken
-size-taken n e = record { pos = leb-true 1 n (and-left (leb 1 n) (leb n 8192) e); le = leb-true n 8192 (and-right (leb 1 n) (leb n 8192) e) }
+size-taken : (n : ℕ) → sizeTaken 8192 n ≡ true → SizeTaken n
+size-taken n e = record { pos = size-pos 8192 n e; le = size-le 8192 n e }
 
 module _ (q : PixelSetting) where
   abbrev sizes-test : Bool
-  sizes-test = sizeTaken (q .width) && sizeTaken (q .height)
+  sizes-test = sizeTaken 8192 (q .width) && sizeTaken 8192 (q .height)
 
   abbrev channels-test : Bool
   channels-test = eqb (q .channels) (formatOf (q .format) .channels)
@@ -66,8 +67,8 @@ module _ (q : PixelSetting) where
       let whole = and-left whole-test room-test strides-hold in
       record {
         known = leb-true (q .format) 16 (inOrder-held 0 FormatCode (leb (q .format) 16) _ e);
-        wide = size-taken (q .width) (and-left (sizeTaken (q .width)) (sizeTaken (q .height)) sizes-hold);
-        high = size-taken (q .height) (and-right (sizeTaken (q .width)) (sizeTaken (q .height)) sizes-hold);
+        wide = size-taken (q .width) (and-left (sizeTaken 8192 (q .width)) (sizeTaken 8192 (q .height)) sizes-hold);
+        high = size-taken (q .height) (and-right (sizeTaken 8192 (q .width)) (sizeTaken 8192 (q .height)) sizes-hold);
         channels-is = eqb-true (q .channels) (formatOf (q .format) .channels) (and-left channels-test precision-test kind-holds);
         precision-is = eqb-true (q .precision) (formatOf (q .format) .precision) (and-right channels-test precision-test kind-holds);
         offset-le = leb-true (q .offset) (formatOf (q .format) .offsets) (inOrder-held 0 XOffset (leb (q .offset) (formatOf (q .format) .offsets)) _ offset);
@@ -77,10 +78,6 @@ module _ (q : PixelSetting) where
       }
 
 -- ---- and back
-
-size-true : (n : ℕ) → SizeTaken n → sizeTaken n ≡ true
-unfolding sizeTaken
-size-true n t = rw (le-leb 1 n (t .pos), le-leb n 8192 (t .le))
 
 module _ (q : PixelSetting) (t : Taken q) where
   kind-true : kindTaken q ≡ true
@@ -95,4 +92,4 @@ module _ (q : PixelSetting) (t : Taken q) where
 
   pub taken-accepted : settingAnswer q ≡ Accepted
   taken-accepted =
-      sym (check-taken q (t .known) (size-true (q .width) (t .wide)) (size-true (q .height) (t .high)) kind-true (t .offset-le) strides-true)
+      sym (check-taken q (t .known) (size-true 8192 (q .width) (t .wide .pos) (t .wide .le)) (size-true 8192 (q .height) (t .high .pos) (t .high .le)) kind-true (t .offset-le) strides-true)

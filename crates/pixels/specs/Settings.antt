@@ -8,16 +8,13 @@ use Rattle.refusal.specs.declared.Refusal.the-variants.{Size, PixelFormat as Fo
 use Rattle.refusal.specs.declared.Answer.{Answer}
 use Rattle.refusal.specs.declared.Quantity.{Quantity}
 use Rattle.refusal.specs.Checks.{require, inOrder, quantity}
+use Rattle.refusal.specs.Sizes.{sizeTaken}
 use Rattle.pixels.specs.declared.PixelSetting.{PixelSetting}
 use Rattle.pixels.specs.Formats.{formatOf}
 
 -- bytes a pixel
 abbrev pub pixelBytes : PixelSetting → ℕ
 pixelBytes q = formatOf (q .format) .bytes
-
--- 1 to 8192
-unfoldable pub sizeTaken : ℕ → Bool
-sizeTaken n = leb 1 n && leb n 8192
 
 -- channels and precision are the format's
 unfoldable pub kindTaken : PixelSetting → Bool
@@ -31,7 +28,7 @@ stridesTaken q = eqb (q .start % 32) 0 && eqb (q .line % 32) 0 && leb ((q .offse
 unfoldable pub settingChecks : PixelSetting → List Answer
 settingChecks q =
     require FormatCode (leb (q .format) 16)
-    ∷ require Size (sizeTaken (q .width) && sizeTaken (q .height))
+    ∷ require Size (sizeTaken 8192 (q .width) && sizeTaken 8192 (q .height))
     ∷ require PixelKind (kindTaken q)
     ∷ require XOffset (leb (q .offset) (formatOf (q .format) .offsets))
     ∷ require PixelStrides (stridesTaken q)

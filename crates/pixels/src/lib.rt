@@ -37,10 +37,10 @@ pub fn setting(image: PixelSetting) -> Answer
     if 16 < image.format {
         return Answer::Refused(Refusal::PixelFormat, 0);
     }
-    if !rules::size_taken(image.width) {
+    if !refusal::size_taken(8192, image.width) {
         return Answer::Refused(Refusal::Size, 0);
     }
-    if !rules::size_taken(image.height) {
+    if !refusal::size_taken(8192, image.height) {
         return Answer::Refused(Refusal::Size, 0);
     }
     let format = table::format_of(image.format);

@@ -1,19 +1,9 @@
 // The rules behind the checks, one function each.
 ghost use mathlib.Core.Path.{_≡_};
 ghost use Rattle.pixels.specs.Formats.{formatOf};
-ghost use Rattle.pixels.specs.Settings.{pixelBytes, sizeTaken, kindTaken, stridesTaken};
+ghost use Rattle.pixels.specs.Settings.{pixelBytes, kindTaken, stridesTaken};
 use crate::PixelFormat;
 use crate::PixelSetting;
-
-// 1 to 8192.
-pub(crate) fn size_taken(n: u32) -> bool
-    ensures { λ r. ⌜ r ≡ sizeTaken n ⌝ }
-{
-    if n < 1 {
-        return false;
-    }
-    n <= 8192
-}
 
 // Channels and precision are the format's.
 pub(crate) fn kind_taken(image: PixelSetting, format: PixelFormat) -> bool

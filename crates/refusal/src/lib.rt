@@ -1,6 +1,7 @@
 // Why a call was refused, and what a call answers (scope paper, "Refusal numbers").
 ghost use mathlib.Core.Path.{_≡_};
 ghost use Rattle.refusal.specs.Codes.{codeOf, answerCode, answerPlace};
+ghost use Rattle.refusal.specs.Sizes.{sizeTaken};
 
 // One variant for each row of the paper's table; `code` gives the row's number.
 pub enum Refusal {
@@ -92,4 +93,14 @@ pub fn answer_place(a: Answer) -> usize
         Answer::Accepted => 0,
         Answer::Refused(_, at) => at,
     }
+}
+
+// Whether a size is taken: 1 to `most`.
+pub fn size_taken(most: u32, n: u32) -> bool
+    ensures { λ r. ⌜ r ≡ sizeTaken most n ⌝ }
+{
+    if n < 1 {
+        return false;
+    }
+    n <= most
 }

@@ -7,7 +7,8 @@ use Rattle.refusal.specs.Checks.{requireAt, inOrder, leaves}
 use Rattle.elements.specs.Bytes.{elementBytes}
 use Rattle.layout.specs.Geometry.{surfaces, elementPosition, cubeExtent}
 use Rattle.layout.specs.Boxes.{spanInside, spanHas}
-use Rattle.layout.specs.Rules.{sizeTaken, sizesTaken, wholeAtoms, stridesTaken, layoutChecks}
+use Rattle.refusal.specs.Sizes.{sizeTaken}
+use Rattle.layout.specs.Rules.{sizesTaken, wholeAtoms, stridesTaken, layoutChecks}
 use Rattle.regions.specs.Slots.{slotOf, slotsOf, rectangleHas, taken, anyFrom, overlaps, rectangleInside}
 use Rattle.regions.specs.Rules.{slotAt, isFilled, rectangleOf, placeChecks, boxInRectangle, areaChecks}
 use Rattle.regions.specs.Calls.{placeAnswer, placeTable}

@@ -1,5 +1,4 @@
 -- The rules and the order of checks 1, 2, 6, 5 as the code goes through them, one test after another. Assumes nothing.
---     size-small, size-large                one size
 --     sizes-kernels .. sizes-columns        the four sizes
 --     check-sizes .. check-taken            the checks
 use Prim.Native.Nat.{ℕ, _≤_, _<_}
@@ -15,15 +14,8 @@ use Rattle.refusal.specs.Checks.{inOrder, require}
 use Rattle.refusal.proofs.CheckLaws.{inOrder-nil, inOrder-next, inOrder-stop}
 use Rattle.weights.specs.declared.WeightLayout.{WeightLayout}
 use Rattle.weights.specs.Geometry.{elementCount, surfaceBytes}
-use Rattle.weights.specs.Rules.{sizeTaken, sizesTaken, weightChecks}
-
-pub size-small : (most n : ℕ) → n < 1 → false ≡ sizeTaken most n
-unfolding sizeTaken
-size-small most n h = rw (lt-leb 1 n h)
-
-pub size-large : (most n : ℕ) → 1 ≤ n → leb n most ≡ sizeTaken most n
-unfolding sizeTaken
-size-large most n h = rw (le-leb 1 n h)
+use Rattle.refusal.specs.Sizes.{sizeTaken}
+use Rattle.weights.specs.Rules.{sizesTaken, weightChecks}
 
 module _ (q : WeightLayout) where
   pub sizes-kernels : sizeTaken 8192 (q .kernels) ≡ false → false ≡ sizesTaken q

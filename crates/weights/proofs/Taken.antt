@@ -8,7 +8,9 @@ use lib.Dec.{leb}
 use borrow.Author.Tests.{leb-true}
 use Rattle.refusal.proofs.TestLaws.{and-left, and-right}
 use Rattle.weights.specs.declared.WeightLayout.{WeightLayout}
-use Rattle.weights.specs.Rules.{sizeTaken, sizesTaken}
+use Rattle.refusal.specs.Sizes.{sizeTaken}
+use Rattle.refusal.proofs.SizeLaws.{size-pos, size-le}
+use Rattle.weights.specs.Rules.{sizesTaken}
 
 -- a size is 1 to `most`
 pub record Within (most n : ℕ) : Type 0 where
@@ -16,12 +18,7 @@ pub record Within (most n : ℕ) : Type 0 where
   pub most-le : n ≤ most
 
 size-within : (most n : ℕ) → sizeTaken most n ≡ true → Within most n
-unfolding sizeTaken
-size-within most n e =
-    record {
-      some = leb-true 1 n (and-left (leb 1 n) (leb n most) e);
-      most-le = leb-true n most (and-right (leb 1 n) (leb n most) e);
-    }
+size-within most n e = record { some = size-pos most n e; most-le = size-le most n e }
 
 pub record Taken (q : WeightLayout) : Type 0 where
   pub kernels : Within 8192 (q .kernels)

@@ -6,12 +6,9 @@ use lib.Dec.{leb, ltb, eqb}
 use Rattle.refusal.specs.declared.Refusal.the-variants.{Size, Precision, BufferLength, ElementCount}
 use Rattle.refusal.specs.declared.Answer.{Answer}
 use Rattle.refusal.specs.Checks.{require}
+use Rattle.refusal.specs.Sizes.{sizeTaken}
 use Rattle.weights.specs.declared.WeightLayout.{WeightLayout}
 use Rattle.weights.specs.Geometry.{elementCount, surfaceBytes}
-
--- 1 to `most`
-unfoldable pub sizeTaken : ℕ → ℕ → Bool
-sizeTaken most n = leb 1 n && leb n most
 
 -- kernels and channels 1 to 8192, rows and columns 1 to 32
 unfoldable pub sizesTaken : WeightLayout → Bool

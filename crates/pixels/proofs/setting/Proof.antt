@@ -6,7 +6,8 @@ use borrow.Author.Tests.{not-true, not-false}
 use Rattle.pixels.specs.declared.PixelFormat.{PixelFormat}
 use Rattle.pixels.specs.declared.PixelSetting.{PixelSetting}
 use Rattle.pixels.specs.Formats.{formatOf}
-use Rattle.pixels.specs.Settings.{sizeTaken, kindTaken}
+use Rattle.refusal.specs.Sizes.{sizeTaken}
+use Rattle.pixels.specs.Settings.{kindTaken}
 use Rattle.pixels.proofs.SettingLaws.{check-format, check-width, check-height, check-kind, check-offset, check-strides, check-taken}
 use borrow.Author.Needs.{needs}
 use Rattle.pixels.proofs.setting.Statement.{statement}
@@ -25,10 +26,10 @@ image-3 c = image-2 (c .before .before)
 abbrev image-4 : tie.Else4 → PixelSetting
 image-4 c = image-3 (c .before .before .before)
 
-width-held : (c : tie.Else2) → sizeTaken (image-2 c .width) ≡ true
+width-held : (c : tie.Else2) → sizeTaken 8192 (image-2 c .width) ≡ true
 width-held c = sym (c .before .size-taken .ensures) ∙ not-false _ (c .if2 .left)
 
-height-held : (c : tie.Else3) → sizeTaken (image-3 c .height) ≡ true
+height-held : (c : tie.Else3) → sizeTaken 8192 (image-3 c .height) ≡ true
 height-held c = sym (c .before .size-taken2 .ensures) ∙ not-false _ (c .if3 .left)
 
 kind-held : (c : tie.Else4) → kindTaken (image-4 c) ≡ true

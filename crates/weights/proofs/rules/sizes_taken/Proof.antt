@@ -2,7 +2,7 @@
 use mathlib.Core.Path.{_≡_, sym, _∙_}
 use mathlib.Core.Bool.{true}
 use borrow.Author.Tests.{not-true, not-false}
-use Rattle.weights.specs.Rules.{sizeTaken}
+use Rattle.refusal.specs.Sizes.{sizeTaken}
 use Rattle.weights.proofs.RuleLaws.{sizes-kernels, sizes-channels, sizes-rows, sizes-columns}
 use borrow.Author.Needs.{needs}
 use Rattle.weights.proofs.rules.sizes_taken.Statement.{statement}

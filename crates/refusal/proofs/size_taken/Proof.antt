@@ -1,7 +1,7 @@
--- `weights::rules::size_taken` meets its contract: its tests are the definition's. Assumes nothing.
-use Rattle.weights.proofs.RuleLaws.{size-small, size-large}
-use Rattle.weights.proofs.rules.size_taken.Statement.{statement}
-use Rattle.weights.proofs.rules.size_taken.Tie as tie
+-- `refusal::size_taken` meets its contract: its tests are the definition's. Assumes nothing.
+use Rattle.refusal.proofs.SizeLaws.{size-small, size-large}
+use Rattle.refusal.proofs.size_taken.Statement.{statement}
+use Rattle.refusal.proofs.size_taken.Tie as tie
 
 returns : tie.Need-returns
 returns c = size-small (c .before .args .most) (c .before .args .n) (c .if1 .taken)

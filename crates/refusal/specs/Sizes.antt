@@ -1,0 +1,8 @@
+-- A size in its range (scope paper, "Refusal numbers", 1). Assumes nothing.
+use Prim.Native.Nat.{ℕ}
+use mathlib.Core.Bool.{Bool, _&&_}
+use lib.Dec.{leb}
+
+-- 1 to `most`
+unfoldable pub sizeTaken : ℕ → ℕ → Bool
+sizeTaken most n = leb 1 n && leb n most

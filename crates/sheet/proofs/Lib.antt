@@ -1,0 +1,3 @@
+-- Laws of the sheet program.
+--     ReadLaws     how many bytes a call reads
+pub mod ReadLaws

@@ -1,0 +1,82 @@
+-- `sheet::feed_all` is safe and ends: each call reads a byte at least. The loop's invariant: `from` is at most the part's length. Assumes nothing.
+use Prim.Native.Nat.{ℕ, _+_, _-_, _≤_, _<_}
+use native.Mathlib.Omega.{arith}
+use mathlib.Core.Path.{_≡_, ap}
+use lib.ListN.{length, take, drop, length-drop}
+use lib.Seq.{length-take-le}
+use borrow.Author.Needs.{needs}
+use Rattle.script.specs.declared.Fed.{Fed}
+use Rattle.sheet.proofs.ReadLaws.{fed-some, fed-most}
+use Rattle.sheet.proofs.feed_all.Statement.{statement}
+use Rattle.sheet.proofs.feed_all.Tie as tie
+
+abbrev Inv-loop : tie.InvT-loop
+Inv-loop part state₀ from₀ state from = from ≤ length part
+
+abbrev μ-loop : tie.MeasureT-loop
+μ-loop part state₀ from₀ state from = length part - from
+
+-- the bytes that a call read
+abbrev whole : tie.After-feed Inv-loop μ-loop → ℕ
+whole c = length (c .before .before .before .before .before .args .part .now)
+
+abbrev from-at : tie.After-feed Inv-loop μ-loop → ℕ
+from-at c = c .before .before .before .loop .from
+
+reads : (c : tie.After-feed Inv-loop μ-loop) → (0 < c .feed .result .read) × (from-at c + c .feed .result .read ≤ whole c)
+reads c =
+    let l = c .before .before .before in
+    let bytes = l .before .before .args .part .now in
+    let from = l .loop .from in
+    let h = c .before .before .loop-test .taken in
+    let rest = take (length bytes - from) (drop from bytes) in
+    let n : length rest ≡ length bytes - from = length-take-le (length bytes - from) (drop from bytes) (omega (arith, length-drop from bytes)) in
+    let same = ap (λ (f : Fed). f .read) (c .feed .ensures) in
+    (omega (arith, same, fed-some (l .loop .state) rest (omega (arith, n, h))), omega (arith, same, fed-most (l .loop .state) rest, n, h))
+
+loop-holds : tie.Need-loop-holds Inv-loop μ-loop
+loop-holds c = omega arith
+
+sub-feed : tie.Need-sub-feed Inv-loop μ-loop
+sub-feed c = search needs
+
+part-feed-start : tie.Need-part-feed-start Inv-loop μ-loop
+part-feed-start c = search needs
+
+part-feed-end : tie.Need-part-feed-end Inv-loop μ-loop
+part-feed-end c = search needs
+
+feed-requires : tie.Need-feed-requires Inv-loop μ-loop
+feed-requires c κs = tt
+
+print-given-requires : tie.Need-print-given-requires Inv-loop μ-loop
+print-given-requires c κs = tt
+
+add-from : tie.Need-add-from Inv-loop μ-loop
+add-from c = record { fits = omega (arith, reads (c .before .before .before) .1, c .before .before .before .before .before .before .before .before .good .1 .0) }
+
+loop-less : tie.Need-loop-less Inv-loop μ-loop
+loop-less c = let r = reads (c .before .before .before) in omega (arith, r .0, r .1)
+
+loop-again : tie.Need-loop-again Inv-loop μ-loop
+loop-again c = omega (arith, reads (c .before .before .before) .1)
+
+returns : tie.Need-returns Inv-loop μ-loop
+returns c = search needs
+
+pub feed-all-spec : {M : Type 1} → statement M
+feed-all-spec =
+    tie.close
+    (tie.spec
+    Inv-loop
+    μ-loop
+    loop-holds
+    sub-feed
+    part-feed-start
+    part-feed-end
+    feed-requires
+    print-given-requires
+    add-from
+    loop-less
+    loop-again
+    returns)
