@@ -4,6 +4,7 @@ mod rules;
 
 ghost use mathlib.Core.Path.{_≡_};
 ghost use Rattle.refusal.specs.Checks.{inOrder};
+ghost use Rattle.layout.specs.Boxes.{spanInside};
 ghost use Rattle.layout.specs.Rules.{layoutChecks, boxChecks, admitChecks};
 ghost use Rattle.layout.specs.Calls.{extentQuantity};
 use refusal::Answer;
@@ -29,6 +30,16 @@ pub struct ElementBox {
     pub channels: u32,
     pub rows: u32,
     pub columns: u32,
+}
+
+// `count` numbers from `first` on, at least one, all below `size`.
+pub fn span_inside(first: u32, count: u32, size: u32) -> bool
+    ensures { λ r. ⌜ r ≡ spanInside first count size ⌝ }
+{
+    if count < 1 {
+        return false;
+    }
+    first as u64 + count as u64 <= size as u64
 }
 
 // Checks 1 to 4.

@@ -2,7 +2,7 @@
 ghost use mathlib.Core.Path.{_≡_};
 ghost use Prim.Native.Nat.{_≤_, _<_};
 ghost use Rattle.layout.specs.Rules.{sizesTaken, stridesTaken};
-ghost use Rattle.layout.specs.Boxes.{spanInside, boxInside};
+ghost use Rattle.layout.specs.Boxes.{boxInside};
 use crate::CubeLayout;
 use crate::ElementBox;
 
@@ -37,25 +37,15 @@ pub(crate) fn strides_taken(width: u32, height: u32, line: u32, surface: u32) ->
     (height as u64 - 1) * line as u64 + atoms as u64 <= surface as u64
 }
 
-// `count` numbers from `first` on, at least one, all below `size`.
-fn span_inside(first: u32, count: u32, size: u32) -> bool
-    ensures { λ r. ⌜ r ≡ spanInside first count size ⌝ }
-{
-    if count < 1 {
-        return false;
-    }
-    first as u64 + count as u64 <= size as u64
-}
-
 // The box has elements, and all of them are in the cube.
 pub(crate) fn box_inside(layout: CubeLayout, area: ElementBox) -> bool
     ensures { λ r. ⌜ r ≡ boxInside layout area ⌝ }
 {
-    if !span_inside(area.channel, area.channels, layout.channels) {
+    if !crate::span_inside(area.channel, area.channels, layout.channels) {
         return false;
     }
-    if !span_inside(area.row, area.rows, layout.height) {
+    if !crate::span_inside(area.row, area.rows, layout.height) {
         return false;
     }
-    span_inside(area.column, area.columns, layout.width)
+    crate::span_inside(area.column, area.columns, layout.width)
 }

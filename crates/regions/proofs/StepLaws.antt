@@ -3,7 +3,7 @@
 --     length-mapped                                   the length of an array of structs
 --     slotOf-placed, slotOf-vacant, slot-rectangle    a struct as a slot, by its flag
 --     filled-past .. vacant-is                        the tests of a slot
---     span-last, rectangle-first .. box-columns       spans, rectangles and boxes
+--     rectangle-first .. box-columns                  spans, rectangles and boxes
 --     area-layout-refused .. area-taken               checks 1 to 4, 8, 9
 --     rectangle-at, moved-is, row-fits, column-fits   the region behind an accepted area
 --     place-layout-refused .. place-taken             checks 1 to 4, 8, 9, 10
@@ -94,11 +94,6 @@ module _ (n : ℕ) (g : Region) {s : Slot} (there : slotOf g ≡ s) where
   vacant-is h = ap not (flag-filled g ∙ ap isFilled there) ∙ number-in n (not (isFilled s)) h
 
 -- ---- rectangles and boxes
-
-pub span-last : (first count size : ℕ) → 1 ≤ count → ltb (first + (count - 1)) size ≡ spanInside first count size
-span-last first count size h =
-    let end : suc (first + (count - 1)) ≡ first + count = omega arith in
-    ap (λ (n : ℕ). leb n size) end ∙ span-some first count size h
 
 module _ (q : CubeLayout) (g : Rectangle) where
   pub rectangle-first : spanInside (g .column) (g .columns) (q .width) ≡ false → false ≡ rectangleInside q g

@@ -5,7 +5,6 @@ ghost use Prim.Native.Nat.{_<_};
 ghost use lib.Dec.{ltb};
 ghost use Rattle.refusal.specs.declared.Answer.the-variants.{Accepted};
 ghost use Rattle.refusal.specs.Checks.{inOrder};
-ghost use Rattle.layout.specs.Boxes.{spanInside};
 ghost use Rattle.regions.specs.Slots.{rectangle, slotOf, slotsOf, rectangleInside};
 ghost use Rattle.regions.specs.Rules.{slotAt, isFilled, rectangleAt, boxInRectangle, cubeBox, areaChecks};
 ghost use Rattle.regions.specs.Calls.{placeAnswer};
@@ -48,38 +47,27 @@ fn vacant(table: RegionTable, slot: u32) -> bool
     !g.placed
 }
 
-// `count` numbers from `first` on, at least one, all below `size`.
-fn span_inside(first: u32, count: u32, size: u32) -> bool
-    ensures { λ r. ⌜ r ≡ spanInside first count size ⌝ }
-{
-    if count < 1 {
-        return false;
-    }
-    let last = first as u64 + (count as u64 - 1);
-    last < size as u64
-}
-
 // The rectangle has positions, and all of them are in the cube.
 fn rectangle_inside(layout: CubeLayout, column: u32, row: u32, columns: u32, rows: u32) -> bool
     ensures { λ r. ⌜ r ≡ rectangleInside layout (rectangle column row columns rows) ⌝ }
 {
-    if !span_inside(column, columns, layout.width) {
+    if !layout::span_inside(column, columns, layout.width) {
         return false;
     }
-    span_inside(row, rows, layout.height)
+    layout::span_inside(row, rows, layout.height)
 }
 
 // The box has elements, all of them in the region.
 fn box_in_region(layout: CubeLayout, g: Region, area: ElementBox) -> bool
     ensures { λ r. ⌜ r ≡ boxInRectangle layout (rectangle (g .column) (g .row) (g .columns) (g .rows)) area ⌝ }
 {
-    if !span_inside(area.channel, area.channels, layout.channels) {
+    if !layout::span_inside(area.channel, area.channels, layout.channels) {
         return false;
     }
-    if !span_inside(area.row, area.rows, g.rows) {
+    if !layout::span_inside(area.row, area.rows, g.rows) {
         return false;
     }
-    span_inside(area.column, area.columns, g.columns)
+    layout::span_inside(area.column, area.columns, g.columns)
 }
 
 // Checks 1 to 4, 8, 9, 10 of a placing.

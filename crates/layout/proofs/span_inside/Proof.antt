@@ -1,8 +1,8 @@
--- `layout::rules::span_inside` meets its contract: its tests are the definition's. Assumes nothing.
+-- `layout::span_inside` meets its contract: its tests are the definition's. Assumes nothing.
 use Rattle.layout.proofs.RuleLaws.{span-none, span-some}
 use borrow.Author.Needs.{needs}
-use Rattle.layout.proofs.rules.span_inside.Statement.{statement}
-use Rattle.layout.proofs.rules.span_inside.Tie as tie
+use Rattle.layout.proofs.span_inside.Statement.{statement}
+use Rattle.layout.proofs.span_inside.Tie as tie
 
 returns : tie.Need-returns
 returns c = let a = c .before .args in span-none (a .first) (a .count) (a .size) (c .if1 .taken)
