@@ -7,13 +7,13 @@
 --     area-layout-refused .. area-taken               checks 1 to 4, 8, 9
 --     rectangle-at, moved-is, row-fits, column-fits   the region behind an accepted area
 --     place-layout-refused .. place-taken             checks 1 to 4, 8, 9, 10
-use Prim.Native.Nat.{ℕ, suc, _+_, _-_, _≤_, _<_}
+use Prim.Native.Nat.{ℕ, _+_, _-_, _≤_, _<_}
 use native.Mathlib.Omega.{arith}
 use mathlib.Core.Path.{_≡_, refl, sym, ap, _∙_}
 use mathlib.Core.Bool.{Bool, true, false, not, cond, _&&_}
 use mathlib.Core.List.{List, [], _∷_, map}
 use lib.ListN.{length, getD, length-map, List·getD-map}
-use lib.Dec.{leb, ltb}
+use lib.Dec.{ltb}
 use borrow.Author.Tests.{lt-ltb, le-ltb}
 use Rattle.refusal.specs.declared.Answer.{Answer}
 use Rattle.refusal.specs.declared.Answer.the-variants.{Accepted, Refused}
@@ -26,7 +26,6 @@ use Rattle.layout.specs.declared.ElementBox.{ElementBox}
 use Rattle.layout.specs.Boxes.{spanInside}
 use Rattle.layout.specs.Rules.{layoutChecks}
 use Rattle.refusal.proofs.TestLaws.{and-right}
-use Rattle.layout.proofs.RuleLaws.{span-some}
 use Rattle.regions.specs.declared.Region.{Region}
 use Rattle.regions.specs.declared.RegionTable.{RegionTable}
 use Rattle.regions.specs.Slots.{Rectangle, rectangle, Slot, empty, filled, slotOf, slotsOf, rectangleInside, overlaps}
