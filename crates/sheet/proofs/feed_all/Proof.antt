@@ -6,7 +6,7 @@ use lib.ListN.{length, take, drop, length-drop}
 use lib.Seq.{length-take-le}
 use borrow.Author.Needs.{needs}
 use Rattle.script.specs.declared.Fed.{Fed}
-use Rattle.sheet.proofs.ReadLaws.{fed-some, fed-most}
+use Rattle.script.proofs.Theorem as script
 use Rattle.sheet.proofs.feed_all.Statement.{statement}
 use Rattle.sheet.proofs.feed_all.Tie as tie
 
@@ -32,7 +32,7 @@ reads c =
     let rest = take (length bytes - from) (drop from bytes) in
     let n : length rest ≡ length bytes - from = length-take-le (length bytes - from) (drop from bytes) (omega (arith, length-drop from bytes)) in
     let same = ap (λ (f : Fed). f .read) (c .feed .ensures) in
-    (omega (arith, same, fed-some (l .loop .state) rest (omega (arith, n, h))), omega (arith, same, fed-most (l .loop .state) rest, n, h))
+    (omega (arith, same, script.reads (l .loop .state) rest .1 (omega (arith, n, h))), omega (arith, same, script.reads (l .loop .state) rest .0, n, h))
 
 loop-holds : tie.Need-loop-holds Inv-loop μ-loop
 loop-holds c = omega arith
