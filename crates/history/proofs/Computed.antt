@@ -1,7 +1,8 @@
--- The example's list, computed: its packing is accepted, and the answers, the elements read and the bytes changed are these. Assumes nothing.
+-- The example's list, computed: its packing is accepted, and the answers, the elements read and the bytes changed are these; and what the plain picture
+-- gives for it. Assumes nothing.
 use Prim.Native.Nat.{ℕ}
 use mathlib.Core.Path.{_≡_, refl}
-use mathlib.Core.List.{[], _∷_, map}
+use mathlib.Core.List.{List, [], _∷_, map}
 use lib.ListN.{length, getD}
 use lib.IntN.{pos, negsuc}
 use Rattle.refusal.specs.declared.Answer.the-variants.{Accepted}
@@ -17,10 +18,11 @@ use Rattle.layout.specs.Rules.{sizesTaken, wholeAtoms, stridesTaken, layoutChec
 use Rattle.layout.specs.Owners.{surfaceOf, rowOf, columnOf, byteInAtom, inAtom, atomOwner, owner}
 use Rattle.layout.specs.Contents.{packedByte, packed, editedByte, edited, storedElement, boxElements}
 use Rattle.layout.specs.Calls.{packAnswer, packBuffer}
-use Rattle.regions.specs.Slots.{slotOf, slotsOf, rectangleHas, taken, anyFrom, overlaps, rectangleInside}
+use Rattle.regions.specs.Slots.{slotOf, slotsOf, emptySlots, rectangleHas, taken, anyFrom, overlaps, rectangleInside}
 use Rattle.regions.specs.Rules.{slotAt, isFilled, rectangleOf, placeChecks, boxInRectangle, areaChecks, readChecks, editChecks}
 use Rattle.regions.specs.Calls.{placeAnswer, placeTable, editAnswer, editBuffer, readAnswer, readElements}
 use Rattle.history.specs.Program.{Shown, answerTo, elementsAfter, stateAfter, program}
+use Rattle.history.specs.Model.{Given, putBox, takeBox, plainAnswer, plainElements, plainAfter, model, given}
 use Rattle.history.specs.Example.{layout, tensor, buffer, calls, shownOf}
 
 -- what the list shows at call n
@@ -37,7 +39,24 @@ pub record Computed : Type 0 where
   pub byte-before : getD (nth 5 .buffer) 33 0 ≡ 5
   pub byte-after : getD (nth 6 .buffer) 33 0 ≡ 248
 
+-- the plain picture of the same list: the raw tensor after the edit, after a refused one, and at the end; its answers; and what a read gives
+abbrev plain : List Given
+plain = model layout (length buffer) (given tensor) calls
+
+abbrev nthPlain : ℕ → Given
+nthPlain n = getD plain n (record { answer = Accepted; elements = []; raw = [] })
+
+pub record Pictured : Type 0 where
+  pub answers : map (λ (g : Given). answerCode (g .answer)) plain ≡ 0 ∷ 10 ∷ 8 ∷ 9 ∷ 8 ∷ 0 ∷ 0 ∷ 8 ∷ 9 ∷ 6 ∷ 7 ∷ 0 ∷ 0 ∷ 8 ∷ 9 ∷ 6 ∷ []
+  pub edited : nthPlain 6 .raw ≡ pos 1 ∷ pos 2 ∷ pos 3 ∷ pos 4 ∷ negsuc 7 ∷ negsuc 5 ∷ []
+  pub refused : nthPlain 10 .raw ≡ pos 1 ∷ pos 2 ∷ pos 3 ∷ pos 4 ∷ negsuc 7 ∷ negsuc 5 ∷ []
+  pub read-1 : nthPlain 12 .elements ≡ pos 3 ∷ negsuc 5 ∷ []
+
 pub computed : Computed
 unfolding requireAt inOrder leaves elementBytes byteOf wordAt signed elementAt remadeFrom remade tabulateFrom tabulate valueTaken valueCheck valueChecksFrom valueChecks elementCount rawIndex surfaces elementPosition cubeExtent boxCount spanInside spanHas boxHas boxIndex channelAt rowAt columnAt sizeTaken sizesTaken wholeAtoms stridesTaken layoutChecks storageChecks cubeChecks surfaceOf rowOf columnOf byteInAtom inAtom atomOwner owner packedByte packed editedByte edited storedElement boxElements packAnswer packBuffer slotOf slotsOf rectangleHas taken anyFrom overlaps rectangleInside slotAt isFilled rectangleOf placeChecks boxInRectangle areaChecks readChecks editChecks placeAnswer placeTable editAnswer editBuffer readAnswer readElements answerTo elementsAfter stateAfter program calls
 computed =
     record { packing = refl; answers = refl; place = refl; read-0 = refl; read-1 = refl; byte-before = refl; byte-after = refl }
+
+pub pictured : Pictured
+unfolding requireAt inOrder leaves elementBytes byteOf wordAt signed elementAt remadeFrom remade tabulateFrom tabulate valueTaken valueCheck valueChecksFrom valueChecks elementCount rawIndex surfaces elementPosition cubeExtent boxCount spanInside spanHas boxHas boxIndex channelAt rowAt columnAt sizeTaken sizesTaken wholeAtoms stridesTaken layoutChecks storageChecks cubeChecks surfaceOf rowOf columnOf byteInAtom inAtom atomOwner owner packedByte packed editedByte edited storedElement boxElements packAnswer packBuffer slotOf slotsOf rectangleHas taken anyFrom overlaps rectangleInside slotAt isFilled rectangleOf placeChecks boxInRectangle areaChecks readChecks editChecks placeAnswer placeTable editAnswer editBuffer readAnswer readElements emptySlots putBox takeBox plainAnswer plainElements plainAfter model calls
+pictured = record { answers = refl; edited = refl; refused = refl; read-1 = refl }

@@ -4,6 +4,10 @@ use Prim.Native.Nat.{ℕ, _+_, _-_, _*_, _/_, _%_}
 use Rattle.elements.specs.Bytes.{elementBytes}
 use Rattle.layout.specs.declared.CubeLayout.{CubeLayout}
 
+-- W H C precision line surface start, as the paper's sheet has them
+abbrev pub layoutOf : ℕ → ℕ → ℕ → ℕ → ℕ → ℕ → ℕ → CubeLayout
+layoutOf w h c p line surface start = record { width = w; height = h; channels = c; precision = p; line = line; surface = surface; start = start }
+
 -- bytes an element (the paper's e)
 abbrev pub sizeOf : CubeLayout → ℕ
 sizeOf q = elementBytes (q .precision)

@@ -1,5 +1,6 @@
 -- Laws of the definitions of specs/.
 --     Statements                               the claims about the lookup, each proof a citation
+--     Computed                                 the paper's own numbers
 --     HitLaws, AnswerLaws, PlaceLaws           what a table answers to a hit; what it answers by where the sample falls; where it falls
 --     GridLaws                                 a hit lies between its entries; grid points
 --     KindLaws                                 the kinds of samples, and the counters
@@ -7,6 +8,7 @@
 --     SelectLaws, RuleLaws                     selects, offsets and the rules as the code takes them
 --     CheckLaws, Taken                         the checks in their order, and what an accepted run tells
 --     LoopLaws                                 the loop over the samples
+pub mod Computed
 pub mod KindLaws
 pub mod HitLaws
 pub mod NumberLaws

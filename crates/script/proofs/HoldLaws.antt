@@ -18,8 +18,7 @@ use borrow.Author.Tests.{le-leb, lt-leb}
 use Rattle.records.specs.declared.Record.the-variants.{Unreadable}
 use Rattle.records.specs.Records.{recordOf}
 use Rattle.script.specs.declared.Sheet.{Sheet}
-use Rattle.script.specs.Feed.{startSheet, withByte, lineRecord, lineEnded}
-use Rattle.script.specs.Steps.{longer, kept}
+use Rattle.script.specs.Feed.{startSheet, withByte, lineRecord, lineEnded, longer, kept}
 use Rattle.script.proofs.StepLaws.{longer-short, longer-long, kept-short}
 
 pub record Holds (s : Sheet) (line : List ℕ) : Type 0 where

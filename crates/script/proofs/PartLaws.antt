@@ -15,8 +15,7 @@ use lib.Dec.{eqb}
 use Rattle.script.specs.declared.Sheet.{Sheet}
 use Rattle.script.specs.declared.Row.{Row}
 use Rattle.script.specs.declared.Fed.{Fed}
-use Rattle.script.specs.Feed.{withByte, lineEnded, lineRow, fedFrom, fed, andThen, partRows, rowsOfParts}
-use Rattle.script.specs.Steps.{lineFed}
+use Rattle.script.specs.Feed.{withByte, lineEnded, lineRow, fedFrom, fed, andThen, partRows, rowsOfParts, lineFed}
 use Rattle.script.proofs.CutLaws.{rowsFrom}
 
 -- ---- how many bytes a call reads

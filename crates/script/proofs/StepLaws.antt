@@ -20,9 +20,9 @@ use Rattle.script.specs.declared.After.{After}
 use Rattle.script.specs.declared.Scanned.{Scanned}
 use Rattle.script.specs.declared.Given.the-variants.{Nothing, Line}
 use Rattle.script.specs.declared.Fed.{Fed}
-use Rattle.script.specs.Feed.{deskOf, withByte, lineRecord, lineEnded, lineRow, fedFrom, fed}
+use Rattle.script.specs.Feed.{deskOf, withByte, lineRecord, lineEnded, lineRow, fedFrom, fed, longer, kept, lineFed}
 use Rattle.script.specs.Sheets.{nextLine, rowOf}
-use Rattle.script.specs.Steps.{desk, longer, kept, scannedFrom, scanned, afterRecord, lineFed}
+use Rattle.script.specs.Steps.{desk, scannedFrom, scanned, afterRecord}
 
 -- ---- the loop over a part
 module _ (n : ℕ) (bytes part : List ℕ) (i : ℕ) where

@@ -10,13 +10,14 @@ use lib.ListN.{length, getD}
 use Rattle.refusal.specs.declared.Refusal.{Refusal}
 use Rattle.refusal.specs.declared.Refusal.the-variants.{Size}
 use Rattle.refusal.specs.declared.Answer.the-variants.{Accepted, Refused}
+use Rattle.layout.specs.Geometry.{layoutOf}
 use Rattle.regions.specs.Calls.{emptyTable}
 use Rattle.records.specs.declared.Record.{Record}
 use Rattle.records.specs.declared.Record.the-variants.{Frame, Stall, Cell}
 use Rattle.records.specs.Texts.{linesOf}
 use Rattle.script.specs.declared.Sheet.{Sheet}
 use Rattle.script.specs.declared.Row.{Row}
-use Rattle.script.specs.Rows.{Desk, startDesk, layoutOf, recordAnswer, recordDone, valueAfter, deskAfter}
+use Rattle.script.specs.Rows.{Desk, startDesk, recordAnswer, recordDone, valueAfter, deskAfter}
 use Rattle.script.specs.Sheets.{sheet}
 use Rattle.script.specs.Feed.{startSheet, fed, partRows, rowsOfParts}
 use Rattle.script.proofs.AnswerLaws as answers

@@ -22,16 +22,17 @@ startSheet = record { lines = 0; length = 0; bytes = replicate 120 0; framed = s
 unfoldable pub deskOf : Sheet → Desk
 deskOf s = record { framed = s .framed; table = s .table }
 
--- one more byte of the line in progress: the first 120 are kept, and the length is held at 121
+-- a line's length after one more byte, held at 121, and its first 120 bytes
+unfoldable pub longer : ℕ → ℕ
+longer n = min (n + 1) 121
+
+unfoldable pub kept : ℕ → List ℕ → ℕ → List ℕ
+kept n bytes b = cond (ltb n 120) (set bytes n b) bytes
+
+-- one more byte of the line in progress
 unfoldable pub withByte : Sheet → ℕ → Sheet
 withByte s b =
-    record {
-      lines = s .lines;
-      length = min (s .length + 1) 121;
-      bytes = cond (ltb (s .length) 120) (set (s .bytes) (s .length) b) (s .bytes);
-      framed = s .framed;
-      table = s .table;
-    }
+    record { lines = s .lines; length = longer (s .length); bytes = kept (s .length) (s .bytes) b; framed = s .framed; table = s .table }
 
 -- the record of the line in progress
 unfoldable pub lineRecord : Sheet → Record
@@ -47,11 +48,15 @@ lineEnded s =
 unfoldable pub lineRow : Sheet → Row
 lineRow s = rowOf (nextLine (s .lines)) (deskOf s) (lineRecord s)
 
+-- what a call gives where a line ended
+abbrev pub lineFed : Sheet → ℕ → Fed
+lineFed s read = record { sheet = lineEnded s; read = read; given = Line (lineRow s) }
+
 -- `feed` reads a part up to its first newline, or whole
 unfoldable pub fedFrom : ℕ → Sheet → List ℕ → Fed
 fedFrom read s [] = record { sheet = s; read = read; given = Nothing }
 fedFrom read s (b ∷ part) =
-    cond (eqb b 10) (record { sheet = lineEnded s; read = read + 1; given = Line (lineRow s) }) (fedFrom (read + 1) (withByte s b) part)
+    cond (eqb b 10) (lineFed s (read + 1)) (fedFrom (read + 1) (withByte s b) part)
 
 unfoldable pub fed : Sheet → List ℕ → Fed
 fed s part = fedFrom 0 s part
@@ -59,7 +64,7 @@ fed s part = fedFrom 0 s part
 -- `finish`: a last line may lack its newline
 unfoldable pub finished : Sheet → Fed
 finished s =
-    cond (eqb (s .length) 0) (record { sheet = s; read = 0; given = Nothing }) (record { sheet = lineEnded s; read = 0; given = Line (lineRow s) })
+    cond (eqb (s .length) 0) (record { sheet = s; read = 0; given = Nothing }) (lineFed s 0)
 
 -- ---- the calls as a program makes them
 

@@ -5,8 +5,7 @@ use Rattle.refusal.specs.declared.Refusal.the-variants.{Size, ScriptLine}
 use Rattle.refusal.specs.declared.Answer.{Answer}
 use Rattle.refusal.specs.declared.Answer.the-variants.{Refused}
 use Rattle.refusal.specs.Checks.{inOrder, leaves}
-use Rattle.layout.specs.declared.CubeLayout.{CubeLayout}
-use Rattle.layout.specs.Geometry.{elementPosition, cubeExtent}
+use Rattle.layout.specs.Geometry.{layoutOf, elementPosition, cubeExtent}
 use Rattle.layout.specs.Boxes.{oneElement}
 use Rattle.layout.specs.Rules.{layoutChecks}
 use Rattle.regions.specs.declared.RegionTable.{RegionTable}
@@ -20,9 +19,6 @@ use Rattle.records.specs.declared.Record.the-variants.{Frame, Stall, Cell, Unre
 pub record Desk : Type 0 where
   pub framed : Bool
   pub table : RegionTable
-
-abbrev pub layoutOf : ℕ → ℕ → ℕ → ℕ → ℕ → ℕ → ℕ → CubeLayout
-layoutOf w h c p line surface start = record { width = w; height = h; channels = c; precision = p; line = line; surface = surface; start = start }
 
 -- before any frame
 abbrev pub startDesk : Desk

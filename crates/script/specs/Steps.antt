@@ -1,31 +1,20 @@
 -- What the code goes by, between a part of the input and its rows: no public promise rests on it, and proofs/StepLaws.antt proves that it comes to
 -- `fed`. Assumes nothing.
-use Prim.Native.Nat.{ℕ, _+_, min}
+use Prim.Native.Nat.{ℕ, _+_}
 use mathlib.Core.Bool.{Bool, true, false, cond}
 use mathlib.Core.List.{List, [], _∷_}
-use lib.Dec.{ltb, eqb}
-use lib.ListN.{set}
+use lib.Dec.{eqb}
 use Rattle.refusal.specs.declared.Refusal.{Refusal}
 use Rattle.refusal.specs.declared.Answer.the-variants.{Refused}
 use Rattle.regions.specs.declared.RegionTable.{RegionTable}
 use Rattle.records.specs.declared.Record.{Record}
-use Rattle.script.specs.declared.Sheet.{Sheet}
 use Rattle.script.specs.declared.Scanned.{Scanned}
 use Rattle.script.specs.declared.After.{After}
-use Rattle.script.specs.declared.Given.the-variants.{Line}
-use Rattle.script.specs.declared.Fed.{Fed}
 use Rattle.script.specs.Rows.{Desk, recordAnswer, valueAfter, deskAfter}
-use Rattle.script.specs.Feed.{lineEnded, lineRow}
+use Rattle.script.specs.Feed.{longer, kept}
 
 abbrev pub desk : Bool → RegionTable → Desk
 desk framed table = record { framed = framed; table = table }
-
--- a line's length after one more byte, and its first 120 bytes
-unfoldable pub longer : ℕ → ℕ
-longer n = min (n + 1) 121
-
-unfoldable pub kept : ℕ → List ℕ → ℕ → List ℕ
-kept n bytes b = cond (ltb n 120) (set bytes n b) bytes
 
 -- the line in progress after a part
 unfoldable pub scannedFrom : ℕ → ℕ → List ℕ → List ℕ → Scanned
@@ -43,7 +32,3 @@ afterRecord d r = record { answer = recordAnswer d r; value = valueAfter d r; fr
 -- a refusal
 abbrev pub refusedRecord : Desk → Refusal → ℕ → After
 refusedRecord d r at = record { answer = Refused r at; value = 0; framed = d .framed; table = d .table }
-
--- the line in progress ended
-abbrev pub lineFed : Sheet → ℕ → Fed
-lineFed s read = record { sheet = lineEnded s; read = read; given = Line (lineRow s) }

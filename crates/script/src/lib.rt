@@ -3,9 +3,8 @@ mod answers;
 mod text;
 
 ghost use mathlib.Core.Path.{_≡_};
-ghost use Rattle.script.specs.Feed.{startSheet, fed, finished};
+ghost use Rattle.script.specs.Feed.{startSheet, lineFed, fed, finished};
 ghost use Rattle.script.specs.Sheets.{nextLine};
-ghost use Rattle.script.specs.Steps.{lineFed};
 use layout::CubeLayout;
 use refusal::Answer;
 use regions::RegionTable;

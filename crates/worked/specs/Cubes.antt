@@ -6,14 +6,10 @@ use lib.IntN.{pos, negsuc}
 use Rattle.refusal.specs.Codes.{answerCode}
 use Rattle.refusal.specs.Checks.{inOrder}
 use Rattle.layout.specs.declared.CubeLayout.{CubeLayout}
-use Rattle.layout.specs.Geometry.{surfaces, elementPosition, cubeExtent}
+use Rattle.layout.specs.Geometry.{layoutOf, surfaces, elementPosition, cubeExtent}
 use Rattle.layout.specs.Rules.{layoutChecks}
 use Rattle.layout.specs.Calls.{packAnswer, packBuffer, unpackAnswer}
 use Rattle.worked.specs.Cases.{Case, gives}
-
--- W H C precision line surface start, as the paper's sheet has them
-abbrev pub layoutOf : ℕ → ℕ → ℕ → ℕ → ℕ → ℕ → ℕ → CubeLayout
-layoutOf w h c p line surface start = record { width = w; height = h; channels = c; precision = p; line = line; surface = surface; start = start }
 
 -- the paper's frame, with the surface stride given
 abbrev pub frame : ℕ → CubeLayout

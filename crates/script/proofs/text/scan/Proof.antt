@@ -6,7 +6,8 @@ use mathlib.Core.Path.{_≡_, refl, ap, _∙_}
 use mathlib.Core.List.{List}
 use lib.ListN.{drop, getD, set}
 use lib.ListN as listn
-use Rattle.script.specs.Steps.{scannedFrom, longer}
+use Rattle.script.specs.Feed.{longer}
+use Rattle.script.specs.Steps.{scannedFrom}
 use Rattle.script.proofs.StepLaws.{scan-all, scan-newline, scan-byte, longer-short, longer-long, kept-short, kept-long}
 use Rattle.script.proofs.text.scan.Statement.{statement}
 use Rattle.script.proofs.text.scan.Tie as tie
