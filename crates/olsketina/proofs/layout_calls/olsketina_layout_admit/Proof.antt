@@ -1,0 +1,25 @@
+-- `olsketina::layout_calls::olsketina_layout_admit` meets its contract: it hands on what `layout::admit` answers. Assumes nothing.
+use Rattle.olsketina.proofs.AnswerLaws.{answered-by}
+use borrow.Author.Needs.{needs}
+use Rattle.olsketina.proofs.layout_calls.olsketina_layout_admit.Statement.{statement}
+use Rattle.olsketina.proofs.layout_calls.olsketina_layout_admit.Tie as tie
+
+layout-of-requires : tie.Need-layout-of-requires
+layout-of-requires c κs = search needs
+
+box-of-requires : tie.Need-box-of-requires
+box-of-requires c κs = search needs
+
+admit-requires : tie.Need-admit-requires
+admit-requires c κs = search needs
+
+give-requires : tie.Need-give-requires
+give-requires c κs = search needs
+
+returns : tie.Need-returns
+returns c = let p = c .before .before in
+    rw (← p .before .before .layout-of .ensures, ← p .before .box-of .ensures) (answered-by (p .admit .ensures) (c .give .ensures))
+
+pub olsketina-layout-admit-spec : {M : Type 1} → statement M
+olsketina-layout-admit-spec =
+    tie.close (tie.spec layout-of-requires box-of-requires admit-requires give-requires returns)

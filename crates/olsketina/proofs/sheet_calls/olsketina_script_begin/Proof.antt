@@ -1,0 +1,18 @@
+-- `olsketina::sheet_calls::olsketina_script_begin` meets its contract: it hands on what `script::begin` gives. Assumes nothing.
+use mathlib.Core.Path.{_∙_}
+use Rattle.olsketina.specs.Sheets.{withSheet}
+use borrow.Author.Needs.{needs}
+use Rattle.olsketina.proofs.sheet_calls.olsketina_script_begin.Statement.{statement}
+use Rattle.olsketina.proofs.sheet_calls.olsketina_script_begin.Tie as tie
+
+begin-requires : tie.Need-begin-requires
+begin-requires c κs = search needs
+
+put-sheet-requires : tie.Need-put-sheet-requires
+put-sheet-requires c κs = search needs
+
+returns : tie.Need-returns
+returns c = let e = c .before .before .before .begin .ensures in (c .put-sheet .ensures ∙ rw e, rw e)
+
+pub olsketina-script-begin-spec : {M : Type 1} → statement M
+olsketina-script-begin-spec = tie.close (tie.spec begin-requires put-sheet-requires returns)

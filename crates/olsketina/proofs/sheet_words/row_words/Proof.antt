@@ -1,0 +1,41 @@
+-- `olsketina::sheet_words::row_words` meets its contract: each arm is the definition's case. Assumes nothing.
+use mathlib.Core.Path.{sym, ap}
+use Rattle.olsketina.specs.Sheets.{rowWords}
+use borrow.Author.Needs.{needs}
+use Rattle.olsketina.proofs.sheet_words.row_words.Statement.{statement}
+use Rattle.olsketina.proofs.sheet_words.row_words.Tie as tie
+
+enum-told : tie.Need-enum-told
+enum-told c = search needs
+
+enum-known-given : tie.Need-enum-known-given
+enum-known-given c = search needs
+
+answer-code-requires : tie.Need-answer-code-requires
+answer-code-requires c κs = search needs
+
+cast-t6 : tie.Need-cast-t6
+cast-t6 c = search needs
+
+answer-place-requires : tie.Need-answer-place-requires
+answer-place-requires c κs = search needs
+
+returns : tie.Need-returns
+unfolding rowWords
+returns c = sym (ap rowWords (c .enum-told .given .1))
+
+returns-2 : tie.Need-returns-2
+unfolding rowWords
+returns-2 c = rw (c .before .before .before .given .given .1, c .before .answer-code .ensures, c .answer-place .ensures)
+
+pub row-words-spec : {M : Type 1} → statement M
+row-words-spec =
+    tie.close
+    (tie.spec
+    enum-told
+    enum-known-given
+    answer-code-requires
+    cast-t6
+    answer-place-requires
+    returns
+    returns-2)

@@ -1,0 +1,46 @@
+-- An answer as C gets it: a number returned, and numbers stored (scope paper, "Refusal numbers"). Assumes nothing.
+use Prim.Native.Nat.{ℕ}
+use mathlib.Core.Path.{_≡_}
+use lib.IntN.{ℤ}
+use Rattle.refusal.specs.declared.Answer.{Answer}
+use Rattle.refusal.specs.declared.Answer.the-variants.{Accepted, Refused}
+use Rattle.refusal.specs.declared.Quantity.{Quantity}
+use Rattle.refusal.specs.declared.Quantity.the-variants.{Is, Denied}
+use Rattle.refusal.specs.Codes.{answerCode, answerPlace}
+use Rattle.quantize.specs.declared.Quantized.{Quantized}
+use Rattle.quantize.specs.declared.Quantized.the-variants.{Value, Denied as NotConverted}
+
+-- the number returned and the place stored are an answer's
+pub record Answered (answer : Answer) (code place : ℕ) : Type 0 where
+  pub coded : code ≡ answerCode answer
+  pub placed : place ≡ answerPlace answer
+
+-- a quantity's answer: accepted where there is one
+abbrev pub quantityAnswer : Quantity → Answer
+quantityAnswer (Is n) = Accepted
+quantityAnswer (Denied r at) = Refused r at
+
+-- the value stored: the quantity, or as it was where there is none
+abbrev pub quantityOver : Quantity → ℕ → ℕ
+quantityOver (Is n) before = n
+quantityOver (Denied r at) before = before
+
+-- the number returned, the value stored and the place stored are a quantity's
+pub record Valued (quantity : Quantity) (before code value place : ℕ) : Type 0 where
+  pub answered : Answered (quantityAnswer quantity) code place
+  pub valued : value ≡ quantityOver quantity before
+
+-- a conversion's answer: accepted where there is a value
+abbrev pub convertedAnswer : Quantized → Answer
+convertedAnswer (Value z) = Accepted
+convertedAnswer (NotConverted r at) = Refused r at
+
+-- the value stored: the converted one, or as it was where there is none
+abbrev pub convertedOver : Quantized → ℤ → ℤ
+convertedOver (Value z) before = z
+convertedOver (NotConverted r at) before = before
+
+-- the number returned, the value stored and the place stored are a conversion's
+pub record Converted (converted : Quantized) (before : ℤ) (code : ℕ) (value : ℤ) (place : ℕ) : Type 0 where
+  pub answered : Answered (convertedAnswer converted) code place
+  pub valued : value ≡ convertedOver converted before

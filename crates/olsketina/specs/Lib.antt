@@ -1,0 +1,6 @@
+pub mod Answers
+pub mod Words
+pub mod Tables
+pub mod Lookups
+pub mod Ready
+pub mod Sheets

@@ -1,0 +1,48 @@
+// Answers as numbers: what a call returns, and what it stores.
+ghost use mathlib.Core.Path.{_≡_};
+ghost use Rattle.olsketina.specs.Answers.{Answered, Valued, Converted};
+use quantize::Quantized;
+use refusal::Answer;
+use refusal::Quantity;
+
+// The number of an answer; its place is stored.
+pub(crate) fn give(answer: Answer, place: &mut usize) -> u32
+    ensures { λ r. ⌜ Answered answer r (now (place .exit)) ⌝ }
+{
+    *place = refusal::answer_place(answer);
+    refusal::answer_code(answer)
+}
+
+// The number of a quantity's answer; its place is stored, and the quantity where there is one.
+pub(crate) fn give_quantity(quantity: Quantity, value: &mut u64, place: &mut usize) -> u32
+    ensures { λ r. ⌜ Valued quantity (now (value .entry)) r (now (value .exit)) (now (place .exit)) ⌝ }
+{
+    match quantity {
+        Quantity::Is(n) => {
+            *value = n;
+            *place = 0;
+            0
+        }
+        Quantity::Denied(refusal, at) => {
+            *place = at;
+            refusal::code(refusal)
+        }
+    }
+}
+
+// The number of a conversion's answer; its place is stored, and the value where there is one.
+pub(crate) fn give_converted(converted: Quantized, value: &mut i16, place: &mut usize) -> u32
+    ensures { λ r. ⌜ Converted converted (now (value .entry)) r (now (value .exit)) (now (place .exit)) ⌝ }
+{
+    match converted {
+        Quantized::Value(n) => {
+            *value = n;
+            *place = 0;
+            0
+        }
+        Quantized::Denied(refusal, at) => {
+            *place = at;
+            refusal::code(refusal)
+        }
+    }
+}

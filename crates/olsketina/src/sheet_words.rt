@@ -1,0 +1,74 @@
+// A sheet's state, rows and records as words.
+ghost use mathlib.Core.Path.{_≡_};
+ghost use Prim.Native.Nat.{_+_, _*_};
+ghost use Rattle.olsketina.specs.Sheets.{sheetFrom, withSheet, rowWords, recordWords};
+use crate::tables;
+use records::Record;
+use script::Given;
+use script::Sheet;
+
+// A number of 64 bits by its low and its high word.
+fn joined(low: u32, high: u32) -> u64
+    ensures { λ r. ⌜ r ≡ low + 4294967296 * high ⌝ }
+{
+    low as u64 + 4294967296 * high as u64
+}
+
+// The state that words and text say.
+pub(crate) fn sheet_of(words: &[u32; 91], text: &[u8; 120]) -> Sheet
+    ensures { λ r. ⌜ r ≡ sheetFrom (now (words .entry)) (now (text .entry)) ⌝ }
+{
+    let bytes = *text;
+    let table = tables::table_at(words, 4);
+    Sheet {
+        lines: joined(words[0], words[1]),
+        length: words[2],
+        bytes: bytes,
+        framed: words[3] != 0,
+        table: table,
+    }
+}
+
+// Stores a state's words, without its text.
+pub(crate) fn put_sheet(words: &mut [u32; 91], sheet: Sheet)
+    ensures { λ _. ⌜ now (words .exit) ≡ withSheet sheet (now (words .entry)) ⌝ }
+{
+    let table = sheet.table;
+    let old = words[3];
+    words[0] = (sheet.lines % 4294967296) as u32;
+    words[1] = (sheet.lines / 4294967296) as u32;
+    words[2] = sheet.length;
+    words[3] = tables::flag_word(sheet.framed, old);
+    tables::put_table(words, 4, table);
+}
+
+// The row of a line that ended: 1, its number, answer, place and value; all 0 where none ended.
+pub(crate) fn row_words(given: Given) -> [u64; 5]
+    ensures { λ r. ⌜ r ≡ rowWords given ⌝ }
+{
+    match given {
+        Given::Nothing => [0u64; 5],
+        Given::Line(row) => {
+            let answer = row.answer;
+            [
+                1,
+                row.line,
+                refusal::answer_code(answer) as u64,
+                refusal::answer_place(answer) as u64,
+                row.value,
+            ]
+        }
+    }
+}
+
+// A record: its kind, then its numbers, the rest 0.
+pub(crate) fn record_words(item: Record) -> [u32; 8]
+    ensures { λ r. ⌜ r ≡ recordWords item ⌝ }
+{
+    match item {
+        Record::Unreadable => [0u32; 8],
+        Record::Frame(w, h, c, p, line, surface, start) => [1, w, h, c, p, line, surface, start],
+        Record::Stall(slot, w0, h0, w, h) => [2, slot, w0, h0, w, h, 0, 0],
+        Record::Cell(slot, c, h, w) => [3, slot, c, h, w, 0, 0, 0],
+    }
+}
