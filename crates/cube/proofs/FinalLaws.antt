@@ -1,30 +1,30 @@
 -- What the calls' loops come to in the terms of the promises: packing, unpacking, and writing and reading a box. Assumes nothing.
 --     written, was-read, packed-whole, unpacked-whole     accepted calls
 --     write-kept, read-kept, pack-kept, unpack-kept       refused calls
---     padding-first, padding-some, padding-none           where the last surface begins; clearing it, or not
-use Prim.Native.Nat.{ℕ, _+_, _-_, _*_, _/_, _%_, _≤_}
+use Prim.Native.Nat.{ℕ, _+_, _≤_}
 use native.Mathlib.Omega.{arith}
 use mathlib.Core.Path.{_≡_, sym, ap, _∙_, subst}
 use mathlib.Core.List.{List}
 use lib.ListN.{length}
 use lib.IntN.{ℤ}
-use borrow.Author.Tests.{eq-eqb, ne-eqb}
 use Rattle.refusal.specs.declared.Refusal.{Refusal}
 use Rattle.refusal.specs.declared.Answer.{Answer}
 use Rattle.refusal.specs.declared.Answer.the-variants.{Accepted, Refused}
 use Rattle.refusal.proofs.CheckLaws.{leaves-done, leaves-before}
 use Rattle.layout.specs.declared.CubeLayout.{CubeLayout}
 use Rattle.layout.specs.declared.ElementBox.{ElementBox}
-use Rattle.layout.specs.Geometry.{sizeOf, surfaces, atomPosition, cubeExtent}
+use Rattle.layout.specs.Geometry.{cubeExtent}
 use Rattle.layout.specs.Boxes.{wholeBox}
 use Rattle.layout.specs.Contents.{packed, edited, boxElements, unpacked}
 use Rattle.layout.specs.Calls.{packBuffer, unpackElements, writeBoxAnswer, writeBoxBuffer, readBoxAnswer, readBoxElements}
 use Rattle.layout.proofs.ContentLaws.{packed-by-edit}
 use Rattle.layout.proofs.CallLaws.{Admitted, admitted, write-admitted, pack-whole, unpack-whole}
-use Rattle.cube.specs.Steps.{rowsStored, rowsRead, linesCleared, surfaceCleared, wiped}
+use Rattle.cube.specs.Steps.{rowsStored, rowsRead}
+use Rattle.cube.specs.Rowwise.{linesWiped, rowsPacked}
 use Rattle.cube.proofs.WriteLaws.{rows-stored}
 use Rattle.cube.proofs.ReadLaws.{rows-read}
-use Rattle.cube.proofs.WipeLaws.{wiped-length, wiped-outside, wiped-padding}
+use Rattle.cube.proofs.WipeLaws.{linesWiped-length, linesWiped-outside, linesWiped-padding}
+use Rattle.cube.proofs.RowwiseLaws.{rows-packed}
 
 -- ---- writing a box
 module _ (q : CubeLayout) (box : ElementBox) (xs : List ℤ) (before : List ℕ) where
@@ -52,20 +52,23 @@ module _ (q : CubeLayout) (box : ElementBox) (buf : List ℕ) (before : List ℤ
 
 -- ---- packing
 module _ (q : CubeLayout) (raw : List ℤ) (before : List ℕ) where
-  -- an accepted packing was admitted, also after its padding was cleared
+  -- an accepted packing was admitted
   pub pack-admits : writeBoxAnswer q (wholeBox q) raw (length before) ≡ Accepted → Admitted q (wholeBox q) (length raw) (length before)
   pack-admits a = admitted q (wholeBox q) (length raw) (length before) (write-admitted q (wholeBox q) raw (length before) a)
 
-  pub packed-whole : {after : List ℕ} → writeBoxAnswer q (wholeBox q) raw (length before) ≡ Accepted → after ≡ rowsStored q (wholeBox q) raw (q .height) (wiped q before)
+  pub packed-whole : {after : List ℕ} → writeBoxAnswer q (wholeBox q) raw (length before) ≡ Accepted → after ≡ rowsPacked q (wholeBox q) raw (q .height) before
       → after ≡ packBuffer q raw before
   unfolding packBuffer
   packed-whole a e =
       let m = pack-admits a in
       let ok = m .layout in
-      let room : q .start + cubeExtent q ≤ length (wiped q before) = subst (λ (n : ℕ). q .start + cubeExtent q ≤ n) (sym (wiped-length q before)) (m .room) in
+      let wiped = linesWiped q (q .height) before in
+      let long : length wiped ≡ length before = linesWiped-length q (q .height) before in
+      let room : q .start + cubeExtent q ≤ length wiped = subst (λ (n : ℕ). q .start + cubeExtent q ≤ n) (sym long) (m .room) in
       e
-      ∙ rows-stored q ok (wholeBox q) (m .area) raw (wiped q before) room
-      ∙ packed-by-edit q ok raw before (wiped q before) (wiped-length q before) (wiped-outside q ok before) (λ p h. wiped-padding q ok before (m .room) p)
+      ∙ rows-packed q ok raw (q .height) (omega arith) before
+      ∙ rows-stored q ok (wholeBox q) (m .area) raw wiped room
+      ∙ packed-by-edit q ok raw before wiped long (linesWiped-outside q ok (q .height) (omega arith) before) (λ p h. linesWiped-padding q ok before (m .room) p)
       ∙ sym (leaves-done (packed q raw before) before (pack-whole q raw (length before) ∙ a))
 
   pub pack-kept : {r : Refusal} {i : ℕ} → writeBoxAnswer q (wholeBox q) raw (length before) ≡ Refused r i → before ≡ packBuffer q raw before
@@ -84,21 +87,3 @@ module _ (q : CubeLayout) (buf : List ℕ) (before : List ℤ) where
 
   pub unpack-kept : {r : Refusal} {i : ℕ} → readBoxAnswer q (wholeBox q) (length before) (length buf) ≡ Refused r i → before ≡ unpackElements q buf before
   unpack-kept a = read-kept q (wholeBox q) buf before a ∙ same-call
-
--- ---- clearing the padding
-module _ (q : CubeLayout) where
-  -- where the channels do not fill their atoms, the last surface begins past the full ones
-  pub padding-first : (q .channels * sizeOf q % 32 ≡ 0 → ⊥) → q .start + (q .channels * sizeOf q / 32) * q .surface ≡ atomPosition q (surfaces q - 1) 0 0 0
-  unfolding atomPosition surfaces
-  padding-first f =
-      let s : q .channels * sizeOf q / 32 ≡ (q .channels * sizeOf q + 31) / 32 - 1 = omega arith in
-      omega (arith, ap (λ (x : ℕ). x * q .surface) s)
-
-  pub padding-some : (buf : List ℕ) {after : List ℕ} {first : ℕ} → (q .channels * sizeOf q % 32 ≡ 0 → ⊥) → first ≡ atomPosition q (surfaces q - 1) 0 0 0
-      → after ≡ linesCleared first (q .line) (32 * q .width) (q .height) buf → after ≡ wiped q buf
-  unfolding wiped surfaceCleared
-  padding-some buf f ef e = e ∙ rw (ef, ne-eqb (q .channels * sizeOf q % 32) 0 f)
-
-  pub padding-none : (buf : List ℕ) → q .channels * sizeOf q % 32 ≡ 0 → buf ≡ wiped q buf
-  unfolding wiped
-  padding-none buf e = rw (eq-eqb (q .channels * sizeOf q % 32) 0 e)

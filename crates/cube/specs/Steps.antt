@@ -1,15 +1,13 @@
 -- What the loops of this crate leave, turn by turn. The contracts of the private functions cite these; no public promise rests on them, and
--- proofs/WriteLaws.antt, ReadLaws.antt and WipeLaws.antt prove what they come to. Assumes nothing.
-use Prim.Native.Nat.{ℕ, zero, suc, _+_, _-_, _*_, _%_}
-use mathlib.Core.Bool.{cond}
+-- proofs/WriteLaws.antt, ReadLaws.antt and ClearLaws.antt prove what they come to. Assumes nothing.
+use Prim.Native.Nat.{ℕ, zero, suc, _+_, _*_}
 use mathlib.Core.List.{List}
 use lib.ListN.{getD, set}
-use lib.Dec.{eqb}
 use lib.IntN.{ℤ, pos}
 use Rattle.elements.specs.Bytes.{byteOf, elementAt}
 use Rattle.layout.specs.declared.CubeLayout.{CubeLayout}
 use Rattle.layout.specs.declared.ElementBox.{ElementBox}
-use Rattle.layout.specs.Geometry.{sizeOf, surfaces, elementPosition, atomPosition}
+use Rattle.layout.specs.Geometry.{sizeOf, elementPosition}
 
 -- ---- writing
 
@@ -50,19 +48,6 @@ rowsStored q box xs (suc n) buf = channelsStored q box xs n (box .channels) (row
 unfoldable pub cleared : ℕ → ℕ → List ℕ → List ℕ
 cleared at zero buf = buf
 cleared at (suc n) buf = set (cleared at n buf) (at + n) 0
-
--- n lines cleared, each of `bytes` bytes, `line` apart from `first` on
-unfoldable pub linesCleared : ℕ → ℕ → ℕ → ℕ → List ℕ → List ℕ
-linesCleared first line bytes zero buf = buf
-linesCleared first line bytes (suc n) buf = cleared (first + n * line) bytes (linesCleared first line bytes n buf)
-
--- the atoms of the last surface cleared
-unfoldable pub surfaceCleared : CubeLayout → List ℕ → List ℕ
-surfaceCleared q buf = linesCleared (atomPosition q (surfaces q - 1) 0 0 0) (q .line) (32 * q .width) (q .height) buf
-
--- the last surface cleared where it has padding
-unfoldable pub wiped : CubeLayout → List ℕ → List ℕ
-wiped q buf = cond (eqb (q .channels * sizeOf q % 32) 0) buf (surfaceCleared q buf)
 
 -- ---- reading
 

@@ -1,6 +1,8 @@
 // Feature cubes packed and read back, whole or a box at a time (scope paper, "Cells and cubes").
+mod fill;
 mod place;
 mod read;
+mod split;
 mod wipe;
 mod write;
 
@@ -52,8 +54,7 @@ pub fn pack(layout: CubeLayout, elements: &[i16], buffer: &mut [u8]) -> Answer
     let Answer::Accepted = a else {
         return a;
     };
-    wipe::padding(layout, buffer);
-    write::rows(layout, area, elements, buffer);
+    fill::rows(layout, area, elements, buffer);
     Answer::Accepted
 }
 

@@ -60,7 +60,13 @@ fn run(layout: CubeLayout, area: ElementBox, n: u32, r: u32, elements: &[i16], b
 }
 
 // All channels of the box's row r.
-fn channels(layout: CubeLayout, area: ElementBox, r: u32, elements: &[i16], buffer: &mut [u8])
+pub(crate) fn channels(
+    layout: CubeLayout,
+    area: ElementBox,
+    r: u32,
+    elements: &[i16],
+    buffer: &mut [u8],
+)
     requires { ⌜ inOrder (admitChecks layout area (length (now elements)) (length (now buffer))) ≡ Accepted ⌝ }
     requires { ⌜ r < area .rows ⌝ }
     ensures { λ _. ⌜ now (buffer .exit) ≡ channelsStored layout area (now (elements .entry)) r (area .channels) (now (buffer .entry)) ⌝ }

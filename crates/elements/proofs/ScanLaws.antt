@@ -1,7 +1,8 @@
 -- The code's tests of one element, and what a pass over the first elements found (specs/Scan.antt). By cases on the sign, and by induction
 -- on how many elements have been passed. Assumes nothing.
+--     read-back                                a 16-bit number as the code reads it
 --     taken-low, taken-high, taken-between     an element below -128, above 127, in between
---     allTaken-none, allTaken-next             no element yet; one element more, as the code computes it
+--     inRange, allTaken-none, allTaken-next    the range that the code keeps: no element yet; one element more
 --     allTaken-at, allTaken-all                a pass that found no fault took each element, and back
 use Prim.Native.Nat.{ℕ, zero, suc, _+_, _^_, _<_}
 use mathlib.Core.Path.{_≡_, refl, sym, ap, _∙_}
@@ -41,17 +42,17 @@ no-fault (negsuc n) e f = rw (le-leb n 127 (ltb-false 127 n e))
 
 -- an element as the code reads it
 module _ (z : ℤ) (m : mag z < 2 ^ 15) where
-  read : toZ w16 (ofZ w16 z) ≡ z
-  read = toZ-ofZ (record { sfits = m })
+  pub read-back : toZ w16 (ofZ w16 z) ≡ z
+  read-back = toZ-ofZ (record { sfits = m })
 
   pub taken-low : ltZ (toZ w16 (ofZ w16 z)) (negsuc 127) ≡ true → valueTaken 0 z ≡ false
-  taken-low e = low-fault z (sym (ap (λ (v : ℤ). ltZ v (negsuc 127)) read) ∙ e)
+  taken-low e = low-fault z (sym (ap (λ (v : ℤ). ltZ v (negsuc 127)) read-back) ∙ e)
 
   pub taken-high : ltZ (pos 127) (toZ w16 (ofZ w16 z)) ≡ true → valueTaken 0 z ≡ false
-  taken-high e = high-fault z (sym (ap (λ (v : ℤ). ltZ (pos 127) v) read) ∙ e)
+  taken-high e = high-fault z (sym (ap (λ (v : ℤ). ltZ (pos 127) v) read-back) ∙ e)
 
   pub taken-between : ltZ (toZ w16 (ofZ w16 z)) (negsuc 127) ≡ false → ltZ (pos 127) (toZ w16 (ofZ w16 z)) ≡ false → valueTaken 0 z ≡ true
-  taken-between e f = no-fault z (sym (ap (λ (v : ℤ). ltZ v (negsuc 127)) read) ∙ e) (sym (ap (λ (v : ℤ). ltZ (pos 127) v) read) ∙ f)
+  taken-between e f = no-fault z (sym (ap (λ (v : ℤ). ltZ v (negsuc 127)) read-back) ∙ e) (sym (ap (λ (v : ℤ). ltZ (pos 127) v) read-back) ∙ f)
 
 -- ---- a pass over the first n elements
 
@@ -59,18 +60,25 @@ pub allTaken-none : (p : ℕ) (zs : List ℤ) → true ≡ allTaken p zs 0
 unfolding allTaken
 allTaken-none p zs = refl
 
-and-assoc : (a b c : Bool) → a && b && c ≡ a && (b && c)
-and-assoc true b c = refl
-and-assoc false b c = refl
+-- whether the numbers from `low` to `high` are int8 elements
+abbrev pub inRange : ℤ → ℤ → Bool
+inRange low high = leZ (negsuc 127) low && leZ high (pos 127)
 
--- the code's flag after one element more
-pub allTaken-next : (zs : List ℤ) (n : ℕ) (all : Bool) → mag (getD zs n (pos 0)) < 2 ^ 15 → all ≡ allTaken 0 zs n
-    → all && leZ (negsuc 127) (toZ w16 (ofZ w16 (getD zs n (pos 0)))) && leZ (toZ w16 (ofZ w16 (getD zs n (pos 0)))) (pos 127) ≡ allTaken 0 zs (n + 1)
+and-pairs : (a b c d : Bool) → a && b && (c && d) ≡ a && c && (b && d)
+and-pairs true b true d = refl
+and-pairs true true false d = refl
+and-pairs true false false d = refl
+and-pairs false b c d = refl
+
+-- the code's range after one element more: the lower bounds of `low′` are those of `low` and x, the upper bounds of `high′` those of `high` and x
+pub allTaken-next : (zs : List ℤ) (n : ℕ) (low high low′ high′ x : ℤ) → x ≡ getD zs n (pos 0) → inRange low high ≡ allTaken 0 zs n
+    → leZ (negsuc 127) low′ ≡ leZ (negsuc 127) low && leZ (negsuc 127) x → leZ high′ (pos 127) ≡ leZ high (pos 127) && leZ x (pos 127)
+    → inRange low′ high′ ≡ allTaken 0 zs (n + 1)
 unfolding allTaken valueTaken
-allTaken-next zs n all m e =
-    and-assoc all _ _
-    ∙ ap (λ (v : ℤ). all && (leZ (negsuc 127) v && leZ v (pos 127))) (read (getD zs n (pos 0)) m)
-    ∙ ap (λ (t : Bool). t && valueTaken 0 (getD zs n (pos 0))) e
+allTaken-next zs n low high low′ high′ x r e l h =
+    rw (l, h) (and-pairs (leZ (negsuc 127) low) (leZ (negsuc 127) x) (leZ high (pos 127)) (leZ x (pos 127)))
+    ∙ ap (λ (t : Bool). t && inRange x x) e
+    ∙ ap (λ (z : ℤ). allTaken 0 zs n && inRange z z) r
     ∙ ap (λ (k : ℕ). allTaken 0 zs k) (sym (add-one n))
 
 pub allTaken-at : (p : ℕ) (zs : List ℤ) (n : ℕ) → allTaken p zs n ≡ true → Taken p zs n

@@ -1,8 +1,9 @@
 // Elements: their bytes, and the values that a precision takes (scope paper, "Cells and cubes"; "Refusal numbers", 7).
 ghost use mathlib.Core.Path.{_≡_};
-ghost use mathlib.Core.Bool.{false};
+ghost use mathlib.Core.Bool.{false, _&&_};
 ghost use Prim.Native.Nat.{_+_, _*_, _/_, _%_, _<_, _≤_};
-ghost use lib.IntN.{pos, _-ℤ_};
+ghost use lib.IntN.{ℤ, pos, _-ℤ_};
+ghost use lib.Signed.{leZ};
 ghost use lib.ListN.{length};
 ghost use Rattle.refusal.specs.Checks.{inOrder};
 ghost use Rattle.elements.specs.Bytes.{elementBytes, byteOf, signed};
@@ -62,18 +63,34 @@ pub fn from_bytes(low: u8, high: u8) -> i16
     less((word + 32768) % 65536, 32768)
 }
 
-// Whether every element lies in -128..127, by one pass without an early exit.
+// The lesser of two numbers: it has the lower bounds that both have.
+fn lesser(a: i16, b: i16) -> i16
+    ensures { λ r. ⌜ ((k : ℤ) → leZ k r ≡ leZ k a && leZ k b) ⌝ }
+{
+    if a <= b { a } else { b }
+}
+
+// The greater of two numbers: it has the upper bounds that both have.
+fn greater(a: i16, b: i16) -> i16
+    ensures { λ r. ⌜ ((k : ℤ) → leZ r k ≡ leZ a k && leZ b k) ⌝ }
+{
+    if a <= b { b } else { a }
+}
+
+// Whether every element lies in -128..127: the least and the greatest of them and 0 do. One pass without an early exit.
 fn all_int8(elements: &[i16]) -> bool
     ensures { λ r. ⌜ r ≡ allTaken 0 (now (elements .entry)) (length (now (elements .entry))) ⌝ }
 {
-    let mut all = true;
+    let mut low: i16 = 0;
+    let mut high: i16 = 0;
     let mut i: usize = 0;
     while i < elements.len() {
         let x = elements[i];
-        all = all & (-128 <= x) & (x <= 127);
+        low = lesser(low, x);
+        high = greater(high, x);
         i += 1;
     }
-    all
+    (-128 <= low) & (high <= 127)
 }
 
 // The index of the first element outside -128..127, of which there is one.

@@ -40,7 +40,7 @@ withWords-after [] at i l p h = refl
 withWords-after (x ∷ xs) at i l p h =
     withWords-after xs at (suc i) (set l (at + i) x) p (omega arith) ∙ getD-set-other l (at + i) p x 0 (λ s. let z : ⊥ = omega arith in z)
 
-withWords-at : (xs : List ℕ) (at i : ℕ) (l : List ℕ) → at + i + length xs ≤ length l → (j : ℕ) → j < length xs → word (withWords xs at i l) (at + i + j) ≡ getD xs j 0
+pub withWords-at : (xs : List ℕ) (at i : ℕ) (l : List ℕ) → at + i + length xs ≤ length l → (j : ℕ) → j < length xs → word (withWords xs at i l) (at + i + j) ≡ getD xs j 0
 unfolding withWords
 withWords-at [] at i l room j h = absurd (not-suc-le-zero h)
 withWords-at (x ∷ xs) at i l room zero h =
@@ -159,6 +159,11 @@ unfolding withRegions
 regions-before slots at zero l p h = refl
 regions-before slots at (suc n) l p h =
     region-kept (getD slots n noRegion) (at + 5 * n) (withRegions slots at n l) p (λ a b. let z : ⊥ = omega arith in z) ∙ regions-before slots at n l p h
+
+-- words before the table stay
+pub table-before : (t : RegionTable) (at : ℕ) (l : List ℕ) (p : ℕ) → p < at → word (withTable t at l) p ≡ word l p
+unfolding withTable withLayout
+table-before t at l p h = regions-before (t .slots) (at + 7) 16 (withLayout (t .layout) at l) p (omega arith) ∙ withWords-before (layoutWords (t .layout)) at 0 l p (omega arith)
 
 -- a layout stored is read back
 layout-word : (q : CubeLayout) (at : ℕ) (l : List ℕ) → at + 7 ≤ length l → (j : ℕ) → j < 7 → word (withLayout q at l) (at + j) ≡ getD (layoutWords q) j 0

@@ -1,7 +1,5 @@
--- `cube::pack` meets its contract: it clears the padding and writes the box of the whole cube. Assumes nothing.
-use Prim.Native.Nat.{ℕ}
+-- `cube::pack` meets its contract: it packs the rows of the box of the whole cube. Assumes nothing.
 use mathlib.Core.Path.{_≡_, sym, ap, subst⁻¹, _∙_}
-use mathlib.Core.List.{List}
 use lib.ListN.{length}
 use Rattle.refusal.specs.declared.Answer.the-variants.{Accepted}
 use Rattle.refusal.specs.Checks.{inOrder}
@@ -9,10 +7,9 @@ use Rattle.layout.specs.declared.ElementBox.{ElementBox}
 use Rattle.layout.specs.Boxes.{wholeBox}
 use Rattle.layout.specs.Rules.{admitChecks}
 use Rattle.layout.specs.Calls.{writeBoxAnswer}
-use Rattle.layout.proofs.CallLaws.{pack-whole, write-admitted, admit-front, box-layout}
-use Rattle.cube.specs.Steps.{rowsStored}
-use Rattle.cube.proofs.WipeLaws.{wiped-length}
-use Rattle.cube.proofs.FinalLaws.{packed-whole, pack-kept, pack-admits}
+use Rattle.layout.proofs.CallLaws.{pack-whole, write-admitted}
+use Rattle.cube.specs.Rowwise.{rowsPacked}
+use Rattle.cube.proofs.FinalLaws.{packed-whole, pack-kept}
 use borrow.Author.Needs.{needs}
 use Rattle.cube.proofs.pack.Statement.{statement}
 use Rattle.cube.proofs.pack.Tie as tie
@@ -53,36 +50,22 @@ returns c = let d = c .before .before in
     let a = start d .args in
     (answer d ∙ sym (pack-whole (a .layout) (a .elements .now) (length (a .buffer .now))), pack-kept (a .layout) (a .elements .now) (a .buffer .now) (sym (answer d) ∙ c .enum-told2 .given .1))
 
-padding-requires : tie.Need-padding-requires
-padding-requires c κs = let d = c .before .before .before in
-    let a = start d .args in (
-      box-layout (a .layout) (wholeBox (a .layout)) (admit-front (a .layout) (wholeBox (a .layout)) (length (a .elements .now)) (length (a .buffer .now)) (admits (c .before))),
-      pack-admits (a .layout) (a .elements .now) (a .buffer .now) (accepted (c .before)) .room,
-    )
-
 rows-requires : tie.Need-rows-requires
-rows-requires c κs = let p = c .before .before .before in
-    let e = p .before .before in
-    let d = e .before .before in
+rows-requires c κs = let d = c .before .before .before in
     let a = start d .args in
-    let long = ap length (p .padding .ensures) ∙ wiped-length (a .layout) (a .buffer .now) in
-    subst⁻¹ (λ (b : ElementBox). inOrder (admitChecks (a .layout) b (length (a .elements .now)) (length (p .padding .last .1 .0))) ≡ Accepted) (d .before .whole .ensures)
-    (subst⁻¹ (λ (n : ℕ). inOrder (admitChecks (a .layout) (wholeBox (a .layout)) (length (a .elements .now)) n) ≡ Accepted) long (admits e))
+    subst⁻¹ (λ (b : ElementBox). inOrder (admitChecks (a .layout) b (length (a .elements .now)) (length (a .buffer .now))) ≡ Accepted) (d .before .whole .ensures) (admits (c .before))
 
 same-length : tie.Need-same-length
 same-length c = search needs
 
 returns-2 : tie.Need-returns-2
 returns-2 c = let f = c .before .before in
-    let p = f .before .before .before .before in
-    let e = p .before .before in
+    let e = f .before .before in
     let d = e .before .before in
     let a = start d .args in (
       sym (accepted e) ∙ sym (pack-whole (a .layout) (a .elements .now) (length (a .buffer .now))),
       packed-whole (a .layout) (a .elements .now) (a .buffer .now) (accepted e)
-          (f .rows .ensures
-          ∙ ap (λ (b : ElementBox). rowsStored (a .layout) b (a .elements .now) (b .rows) (p .padding .last .1 .0)) (d .before .whole .ensures)
-          ∙ ap (λ (l : List ℕ). rowsStored (a .layout) (wholeBox (a .layout)) (a .elements .now) (a .layout .height) l) (p .padding .ensures)),
+          (f .rows .ensures ∙ ap (λ (b : ElementBox). rowsPacked (a .layout) b (a .elements .now) (b .rows) (a .buffer .now)) (d .before .whole .ensures)),
     )
 
 pub pack-spec : {M : Type 1} → statement M
@@ -94,7 +77,6 @@ pack-spec =
     enum-told
     enum-told-2
     returns
-    padding-requires
     rows-requires
     same-length
     returns-2)

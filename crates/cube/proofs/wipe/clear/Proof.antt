@@ -4,7 +4,7 @@ use native.Mathlib.Omega.{arith}
 use mathlib.Core.Path.{_≡_, ap, _∙_}
 use lib.ListN.{length}
 use Rattle.cube.specs.Steps.{cleared}
-use Rattle.cube.proofs.WipeLaws.{clear-start, clear-step, cleared-length}
+use Rattle.cube.proofs.ClearLaws.{clear-start, clear-step, cleared-length}
 use Rattle.cube.proofs.wipe.clear.Statement.{statement}
 use Rattle.cube.proofs.wipe.clear.Tie as tie
 
