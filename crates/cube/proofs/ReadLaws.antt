@@ -188,12 +188,8 @@ pub run-as-row : (q : CubeLayout) (box : ElementBox) (buf : List ℕ) (n r : ℕ
 unfolding runRead
 run-as-row q box buf n r xs es ef ea = rw (ef, ea, ← es)
 
--- ---- one turn of the channels' and of the rows' loop
+-- ---- one turn of the rows' loop
 module _ (q : CubeLayout) (box : ElementBox) (buf : List ℕ) {xs after : List ℤ} (before : List ℤ) where
-  pub channels-step : (r n : ℕ) → xs ≡ channelsRead q box buf r n before → after ≡ runRead q box buf n r xs → after ≡ channelsRead q box buf r (n + 1) before
-  unfolding channelsRead
-  channels-step r n e f = rw (add-one n) (f ∙ ap (runRead q box buf n r) e)
-
   pub rows-step : (n : ℕ) → xs ≡ rowsRead q box buf n before → after ≡ channelsRead q box buf n (box .channels) xs → after ≡ rowsRead q box buf (n + 1) before
   unfolding rowsRead
   rows-step n e f = rw (add-one n) (f ∙ ap (channelsRead q box buf n (box .channels)) e)

@@ -5,10 +5,11 @@
 --     run-index-lt, run-index-end    a run's indices are the box's
 --     run-cube, run-room, run-end    a run's elements are in the cube, their bytes in the buffer
 --     position-lt, channel-bytes     bounds of positions
-use Prim.Native.Nat.{ℕ, _+_, _-_, _*_, _^_, _≤_, _<_}
-use native.Mathlib.Nat.{mul-le-mul}
+--     run-index-more, run-position-more     where the k-th channel after n begins
+use Prim.Native.Nat.{ℕ, _+_, _-_, _*_, _/_, _%_, _^_, _≤_, _<_}
+use native.Mathlib.Nat.{mul-le-mul, add-mul, mul-assoc}
 use native.Mathlib.Omega.{arith}
-use mathlib.Core.Path.{_≡_, subst}
+use mathlib.Core.Path.{_≡_, ap, _∙_, subst}
 use Rattle.layout.specs.declared.CubeLayout.{CubeLayout}
 use Rattle.layout.specs.declared.ElementBox.{ElementBox}
 use Rattle.layout.specs.Geometry.{sizeOf, elementPosition, cubeExtent}
@@ -71,3 +72,30 @@ position-lt q ok hl hs ht c h w hc hh hw = omega (arith, element-within q ok c h
 
 pub channel-bytes : (q : CubeLayout) → Taken q → (c : ℕ) → c < q .channels → c * sizeOf q ≤ 16384
 channel-bytes q ok c hc = mul-le-mul {n₁ = c} {m₁ = sizeOf q} {n₂ = 8192} {m₂ = 2} (omega (arith, ok .channels-le)) (elementBytes-le (q .precision))
+
+-- ---- where the k-th channel after n begins
+pub run-index-more : (box : ElementBox) (n r k : ℕ) → runIndex box (n + k) r ≡ runIndex box n r + k * (box .rows * box .columns)
+unfolding runIndex
+run-index-more box n r k =
+    let rows = box .rows in
+    let columns = box .columns in
+    ap (λ (m : ℕ). (m + r) * columns) (add-mul n k rows)
+    ∙ omega (
+      arith,
+      add-mul (n * rows + k * rows) r columns,
+      add-mul (n * rows) (k * rows) columns,
+      add-mul (n * rows) r columns,
+      mul-assoc k rows columns,
+    )
+
+-- while the two lie in one atom
+pub run-position-more : (q : CubeLayout) (box : ElementBox) (n r k : ℕ) → (box .channel + n) * sizeOf q % 32 + k * sizeOf q < 32
+    → runPosition q box (n + k) r ≡ runPosition q box n r + k * sizeOf q
+unfolding runPosition elementPosition
+run-position-more q box n r k h =
+    let e = sizeOf q in
+    let c = (box .channel + n) * e in
+    let bytes : (box .channel + (n + k)) * e ≡ c + k * e = ap (λ (m : ℕ). m * e) (omega arith) ∙ add-mul (box .channel + n) k e in
+    let surface : (box .channel + (n + k)) * e / 32 ≡ c / 32 = omega arith in
+    let byte : (box .channel + (n + k)) * e % 32 ≡ c % 32 + k * e = omega arith in
+    rw (surface, byte) (omega arith)

@@ -1,5 +1,5 @@
 -- Several channels of a row read together: the bytes of an atom are split into rows. The contracts of the private functions cite these; no
--- public promise rests on them, and proofs/SplitLaws.antt and GroupLaws.antt prove what they come to. Assumes nothing.
+-- public promise rests on them, and proofs/SplitLaws.antt and ReadGroupLaws.antt prove what they come to. Assumes nothing.
 use Prim.Native.Nat.{ℕ, zero, suc, _+_, _*_, _/_, _%_, _^_, _≤_, _<_}
 use mathlib.Core.Path.{_≡_}
 use mathlib.Core.List.{List}

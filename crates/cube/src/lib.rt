@@ -1,4 +1,5 @@
 // Feature cubes packed and read back, whole or a box at a time (scope paper, "Cells and cubes").
+mod band;
 mod fill;
 mod place;
 mod read;

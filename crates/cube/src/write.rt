@@ -1,11 +1,15 @@
 // Writing a box: by row, then channel, then column.
 ghost use mathlib.Core.Path.{_≡_};
-ghost use Prim.Native.Nat.{_+_, _*_, _≤_, _<_};
+ghost use mathlib.Core.Bool.{true};
+ghost use Prim.Native.Nat.{_+_, _*_, _/_, _%_, _≤_, _<_};
 ghost use lib.ListN.{length};
 ghost use Rattle.refusal.specs.declared.Answer.the-variants.{Accepted};
 ghost use Rattle.refusal.specs.Checks.{inOrder};
+ghost use Rattle.layout.specs.Geometry.{sizeOf};
 ghost use Rattle.layout.specs.Rules.{admitChecks};
 ghost use Rattle.cube.specs.Steps.{rowStored, runStored, channelsStored, rowsStored};
+ghost use Rattle.cube.specs.Bands.{groupStored};
+use crate::band;
 use crate::place;
 use layout::CubeLayout;
 use layout::ElementBox;
@@ -59,6 +63,63 @@ fn run(layout: CubeLayout, area: ElementBox, n: u32, r: u32, elements: &[i16], b
     }
 }
 
+// Whether as many channels as fill four bytes, from channel n of the box on, are left and lie in one atom.
+fn together(area: ElementBox, n: u32, e: u32) -> bool
+    requires { ⌜ (1 ≤ e) × (e ≤ 2) ⌝ }
+    requires { ⌜ (n < area .channels) × (area .channel + area .channels ≤ 8192) ⌝ }
+    ensures { λ b. ⌜ (b ≡ true → (n + 4 / e ≤ area .channels) × ((area .channel + n) * e % 32 ≤ 28)) ⌝ }
+{
+    if area.channels - n < 4 / e {
+        return false;
+    }
+    (area.channel + n) * e % 32 <= 28
+}
+
+// As many channels as fill four bytes, from channel n of the box on, in the box's row r.
+fn runs(
+    layout: CubeLayout,
+    area: ElementBox,
+    n: u32,
+    r: u32,
+    e: u32,
+    elements: &[i16],
+    buffer: &mut [u8],
+)
+    requires { ⌜ inOrder (admitChecks layout area (length (now elements)) (length (now buffer))) ≡ Accepted ⌝ }
+    requires { ⌜ (e ≡ sizeOf layout) × (r < area .rows) ⌝ }
+    requires { ⌜ (n + 4 / e ≤ area .channels) × ((area .channel + n) * e % 32 ≤ 28) ⌝ }
+    ensures { λ _. ⌜ now (buffer .exit) ≡ groupStored layout area (now (elements .entry)) r n (4 / e) (now (buffer .entry)) ⌝ }
+{
+    let at = place::run_position(layout, area, n, r);
+    let from = place::run_index(area, n, r);
+    let count = area.columns as usize;
+    let plane = area.rows as usize * count;
+    band::write(e, elements, from, plane, count, buffer, at);
+}
+
+// The channels of the box's row r, from channel n on, that are written together; gives how many.
+fn group(
+    layout: CubeLayout,
+    area: ElementBox,
+    n: u32,
+    r: u32,
+    elements: &[i16],
+    buffer: &mut [u8],
+) -> u32
+    requires { ⌜ inOrder (admitChecks layout area (length (now elements)) (length (now buffer))) ≡ Accepted ⌝ }
+    requires { ⌜ (n < area .channels) × (r < area .rows) ⌝ }
+    ensures count { λ k. ⌜ (1 ≤ k) × (n + k ≤ area .channels) ⌝ }
+    ensures stored { λ k. ⌜ now (buffer .exit) ≡ groupStored layout area (now (elements .entry)) r n k (now (buffer .entry)) ⌝ }
+{
+    let e = elements::element_bytes(layout.precision);
+    if together(area, n, e) {
+        runs(layout, area, n, r, e, elements, buffer);
+        return 4 / e;
+    }
+    run(layout, area, n, r, elements, buffer);
+    1
+}
+
 // All channels of the box's row r.
 pub(crate) fn channels(
     layout: CubeLayout,
@@ -74,8 +135,7 @@ pub(crate) fn channels(
     let count = area.channels;
     let mut n: u32 = 0;
     while n < count {
-        run(layout, area, n, r, elements, buffer);
-        n += 1;
+        n += group(layout, area, n, r, elements, buffer);
     }
 }
 

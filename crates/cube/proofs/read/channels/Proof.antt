@@ -9,7 +9,7 @@ use Rattle.layout.specs.Rules.{admitChecks}
 use Rattle.layout.proofs.CallLaws.{admitted, box-counts}
 use Rattle.cube.specs.Steps.{channelsRead}
 use Rattle.cube.proofs.ReadLaws.{channels-start, channelsRead-length}
-use Rattle.cube.proofs.GroupLaws.{group-step}
+use Rattle.cube.proofs.ReadGroupLaws.{group-step}
 use Rattle.cube.proofs.read.channels.Statement.{statement}
 use Rattle.cube.proofs.read.channels.Tie as tie
 

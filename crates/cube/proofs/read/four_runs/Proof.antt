@@ -4,7 +4,7 @@ use native.Mathlib.Nat.{mul-le-mul, mul-le-mul-right}
 use mathlib.Core.Path.{_∙_}
 use lib.ListN.{length}
 use Rattle.layout.proofs.CallLaws.{Admitted, admitted, admit-front, box-counts}
-use Rattle.cube.proofs.GroupLaws.{four-as-group, four-index-end, four-end}
+use Rattle.cube.proofs.ReadGroupLaws.{four-as-group, four-index-end, four-end}
 use borrow.Author.Needs.{needs}
 use Rattle.cube.proofs.read.four_runs.Statement.{statement}
 use Rattle.cube.proofs.read.four_runs.Tie as tie

@@ -3,7 +3,7 @@ use native.Mathlib.Omega.{arith}
 use mathlib.Core.Path.{_∙_}
 use lib.ListN.{length}
 use Rattle.layout.proofs.CallLaws.{admit-front}
-use Rattle.cube.proofs.GroupLaws.{groupRead-one}
+use Rattle.cube.proofs.ReadGroupLaws.{groupRead-one}
 use borrow.Author.Needs.{needs}
 use Rattle.cube.proofs.read.group.Statement.{statement}
 use Rattle.cube.proofs.read.group.Tie as tie

@@ -8,7 +8,8 @@ use Rattle.refusal.specs.Checks.{inOrder}
 use Rattle.layout.specs.Rules.{admitChecks}
 use Rattle.layout.proofs.CallLaws.{admitted, box-counts}
 use Rattle.cube.specs.Steps.{channelsStored}
-use Rattle.cube.proofs.WriteLaws.{channels-start, channels-step, channelsStored-length}
+use Rattle.cube.proofs.WriteLaws.{channels-start, channelsStored-length}
+use Rattle.cube.proofs.WriteGroupLaws.{group-step}
 use Rattle.cube.proofs.write.channels.Statement.{statement}
 use Rattle.cube.proofs.write.channels.Tie as tie
 
@@ -34,8 +35,8 @@ bound c =
 loop-holds : tie.Need-loop-holds Inv-loop μ-loop
 loop-holds c = let a = c .before .args in (omega arith, channels-start (a .layout) (a .area) (a .elements .now) (a .r) (a .buffer .now))
 
-run-requires : tie.Need-run-requires Inv-loop μ-loop
-run-requires c κs = let l = c .before .before in
+group-requires : tie.Need-group-requires Inv-loop μ-loop
+group-requires c κs = let l = c .before .before in
     let s = l .before .before in
     let a = s .args in
     (subst (λ (n : ℕ). inOrder (admitChecks (a .layout) (a .area) (length (a .elements .now)) n) ≡ Accepted) (sym (long l)) (s .pre .0), (c .before .loop-test .taken, s .pre .1))
@@ -51,7 +52,7 @@ loop-again : tie.Need-loop-again Inv-loop μ-loop
 loop-again c = let f = c .before .before in
     let l = f .before .before .before in
     let a = l .before .before .args in
-    (omega arith, channels-step (a .layout) (a .area) (a .elements .now) (a .buffer .now) (a .r) (l .loop .n) (l .loop .inv .1) (f .run .ensures))
+    (omega (arith, f .group .ensures .0), group-step (a .layout) (a .area) (a .elements .now) (a .r) (l .loop .n) (f .group .result) (a .buffer .now) (l .loop .inv .1) (f .group .ensures .1))
 
 same-length : tie.Need-same-length Inv-loop μ-loop
 same-length c = long (c .before)
@@ -69,7 +70,7 @@ channels-spec =
     Inv-loop
     μ-loop
     loop-holds
-    run-requires
+    group-requires
     add-n
     loop-less
     loop-again

@@ -2,25 +2,24 @@
 -- Assumes nothing.
 --     groupRead-one                  one channel is a group
 --     group-step                     one turn of the channels' loop
---     run-index-more, run-position-more     where the k-th channel after n begins
 --     rows-group, four-as-group      rows beside each other are the channels of a group
 --     four-index-end, four-end       their indices and bytes are there
-use Prim.Native.Nat.{ℕ, zero, suc, _+_, _*_, _/_, _%_, _≤_, _<_}
+use Prim.Native.Nat.{ℕ, zero, suc, _+_, _*_, _%_, _≤_, _<_}
 use native.Mathlib.Omega.{arith}
-use native.Mathlib.Nat.{add-zero, add-suc, add-mul, mul-assoc}
+use native.Mathlib.Nat.{add-zero, add-suc}
 use mathlib.Core.Path.{_≡_, refl, sym, ap, _∙_, subst}
 use mathlib.Core.List.{List}
 use lib.IntN.{ℤ}
 use Rattle.elements.proofs.ByteLaws.{elementBytes-int8}
 use Rattle.layout.specs.declared.CubeLayout.{CubeLayout}
 use Rattle.layout.specs.declared.ElementBox.{ElementBox}
-use Rattle.layout.specs.Geometry.{sizeOf, elementPosition, cubeExtent}
+use Rattle.layout.specs.Geometry.{sizeOf, cubeExtent}
 use Rattle.layout.specs.Boxes.{boxCount}
 use Rattle.layout.proofs.BoxLaws.{BoxTaken}
 use Rattle.layout.proofs.Taken.{Taken}
 use Rattle.cube.specs.Steps.{runIndex, runPosition, runRead, channelsRead}
 use Rattle.cube.specs.Splits.{rowsBeside, groupRead, Together}
-use Rattle.cube.proofs.RunLaws.{run-index-end, run-end}
+use Rattle.cube.proofs.RunLaws.{run-index-end, run-end, run-index-more, run-position-more}
 
 -- ---- groups
 module _ (q : CubeLayout) (box : ElementBox) (buf : List ℕ) (r : ℕ) where
@@ -39,33 +38,7 @@ module _ (q : CubeLayout) (box : ElementBox) (buf : List ℕ) (r : ℕ) where
       → after ≡ channelsRead q box buf r (n + k) before
   group-step n k before e s = s ∙ ap (groupRead q box buf r n k) e ∙ channels-group n k before
 
--- ---- where the k-th channel after n begins
-pub run-index-more : (box : ElementBox) (n r k : ℕ) → runIndex box (n + k) r ≡ runIndex box n r + k * (box .rows * box .columns)
-unfolding runIndex
-run-index-more box n r k =
-    let rows = box .rows in
-    let columns = box .columns in
-    ap (λ (m : ℕ). (m + r) * columns) (add-mul n k rows)
-    ∙ omega (
-      arith,
-      add-mul (n * rows + k * rows) r columns,
-      add-mul (n * rows) (k * rows) columns,
-      add-mul (n * rows) r columns,
-      mul-assoc k rows columns,
-    )
-
--- while the two lie in one atom
-pub run-position-more : (q : CubeLayout) (box : ElementBox) (n r k : ℕ) → (box .channel + n) * sizeOf q % 32 + k * sizeOf q < 32
-    → runPosition q box (n + k) r ≡ runPosition q box n r + k * sizeOf q
-unfolding runPosition elementPosition
-run-position-more q box n r k h =
-    let e = sizeOf q in
-    let c = (box .channel + n) * e in
-    let bytes : (box .channel + (n + k)) * e ≡ c + k * e = ap (λ (m : ℕ). m * e) (omega arith) ∙ add-mul (box .channel + n) k e in
-    let surface : (box .channel + (n + k)) * e / 32 ≡ c / 32 = omega arith in
-    let byte : (box .channel + (n + k)) * e % 32 ≡ c % 32 + k * e = omega arith in
-    rw (surface, byte) (omega arith)
-
+-- ---- rows beside each other
 module _ (q : CubeLayout) (box : ElementBox) (buf : List ℕ) (n r : ℕ) (xs : List ℤ) where
   rows-group : (k : ℕ) → ((j : ℕ) → j < k → (box .channel + n) * sizeOf q % 32 + j * sizeOf q < 32)
       → rowsBeside (sizeOf q) k buf (runPosition q box n r) (runIndex box n r) (box .rows * box .columns) (box .columns) xs ≡ groupRead q box buf r n k xs
