@@ -1,11 +1,13 @@
 -- What travels as words comes back as it was: a table decoded after it was encoded, a placing, a sheet's state. Assumes nothing.
 --     table-back     decoding what was encoded gives the table back
 --     place-back     after a placing, refused or accepted, the words say the table that `regions::place` hands back
+--     place-alone    a placing changes the five words of its slot and no other
 --     sheet-back     decoding what was encoded gives the state back
 --     counters-back  decoding what was encoded gives the counters back
 use Prim.Native.Nat.{ℕ, _+_, _*_, _/_, _%_, _≤_, _<_}
 use native.Mathlib.Omega.{arith}
-use mathlib.Core.Path.{_≡_, refl, ap, _∙_}
+use native.Mathlib.Decide.{decLe}
+use mathlib.Core.Path.{_≡_, refl, ap, _∙_, subst}
 use mathlib.Core.List.{List}
 use lib.ListN.{length, getD, set, length-set}
 use Rattle.refusal.specs.declared.Answer.{Answer}
@@ -16,14 +18,16 @@ use Rattle.regions.specs.declared.Region.{Region}
 use Rattle.regions.specs.declared.RegionTable.{RegionTable}
 use Rattle.regions.specs.Slots.{Rectangle}
 use Rattle.regions.specs.Calls.{placeAnswer, placeTable, placedRegion}
-use Rattle.regions.proofs.CallLaws.{place-kept}
+use Rattle.regions.proofs.CallLaws.{place-kept, place-left}
 use Rattle.lut.specs.declared.Counters.{Counters}
 use Rattle.script.specs.declared.Sheet.{Sheet}
 use Rattle.olsketina.specs.Words.{word}
-use Rattle.olsketina.specs.Tables.{regionAt, slotsAt, tableAt, withWords, withTable}
+use Rattle.olsketina.specs.Tables.{layoutAt, regionAt, slotsAt, tableAt, withWords, withLayout, withTable}
 use Rattle.olsketina.specs.Lookups.{countersFrom, counterWords}
 use Rattle.olsketina.specs.Sheets.{sheetFrom, progressWords, withSheet}
-use Rattle.olsketina.proofs.TableLaws.{withWords-length, withWords-at, table-before, says-flag, decoded}
+use Rattle.olsketina.proofs.StoreLaws.{withWords-length, withWords-at, withLayout-length, says-flag}
+use Rattle.olsketina.proofs.TableLaws.{regions-before, table-before, layout-word, layout-after, decoded}
+use Rattle.olsketina.proofs.PlaceLaws.{layout-same, regions-other}
 
 pub table-back : (t : RegionTable) (l : List ℕ) → length (t .slots) ≡ 16 → length l ≡ 87 → tableAt (withTable t 0 l) 0 ≡ t
 table-back t l slots long = decoded t 0 l slots (omega (arith, long))
@@ -50,6 +54,29 @@ place-back l n g long = go (placeAnswer (tableAt l 0) n g) refl
     go : (a : Answer) → placeAnswer (tableAt l 0) n g ≡ a → tableAt (leaves a (withTable (placeTable (tableAt l 0) n g) 0 l) l) 0 ≡ placeTable (tableAt l 0) n g
     go Accepted e = table-back (placeTable (tableAt l 0) n g) l (placed-sixteen (tableAt l 0) n g (slots-sixteen l)) long
     go (Refused r i) e = place-kept (tableAt l 0) n g e
+
+-- the words of a table with one slot set
+slot-alone : (l : List ℕ) (n : ℕ) (r : Region) → length l ≡ 87 → (p : ℕ) → (7 + 5 * n ≤ p → p < 12 + 5 * n → ⊥)
+    → word (withTable (record { layout = tableAt l 0 .layout; slots = set (tableAt l 0 .slots) n r }) 0 l) p ≡ word l p
+unfolding withTable tableAt
+slot-alone l n r long p out =
+    let m = withLayout (layoutAt l 0) 0 l in
+    let slots = set (slotsAt l 7) n r in
+    let same : (p : ℕ) → 7 ≤ p → word m p ≡ word l p = λ p h. layout-after (layoutAt l 0) 0 l p h in
+    elim (decLe 7 p) [
+      | yes h ↦ regions-other l m 7 n r (omega (arith, long, withLayout-length (layoutAt l 0) 0 l)) same 16 (omega arith) p h (λ a b. out a (omega arith))
+      | no f ↦ regions-before slots 7 16 m p (omega arith) ∙ ap (λ (x : ℕ). word m x) (omega arith) ∙ layout-word (layoutAt l 0) 0 l (omega (arith, long)) p (omega arith) ∙ layout-same l p (omega arith)
+    ]
+
+pub place-alone : (l : List ℕ) (n : ℕ) (g : Rectangle) → length l ≡ 87 → (p : ℕ) → (7 + 5 * n ≤ p → p < 12 + 5 * n → ⊥)
+    → let t = tableAt l 0 in
+    word (leaves (placeAnswer t n g) (withTable (placeTable t n g) 0 l) l) p ≡ word l p
+unfolding leaves
+place-alone l n g long p out = go (placeAnswer (tableAt l 0) n g) refl
+  where
+    go : (a : Answer) → placeAnswer (tableAt l 0) n g ≡ a → word (leaves a (withTable (placeTable (tableAt l 0) n g) 0 l) l) p ≡ word l p
+    go Accepted e = subst (λ (t : RegionTable). word (withTable t 0 l) p ≡ word l p) (place-left (tableAt l 0) n g e) (slot-alone l n (placedRegion g) long p out)
+    go (Refused r i) e = refl
 
 pub sheet-back : (s : Sheet) (l : List ℕ) → length (s .table .slots) ≡ 16 → length l ≡ 91 → sheetFrom (withSheet s l) (s .bytes) ≡ s
 unfolding sheetFrom withSheet progressWords

@@ -1,73 +1,25 @@
 -- A table stored as words is read back as that table. Assumes nothing.
---     withLayout-length .. withTable-length
 --     slots-next, slots-all                 the slots read so far
 --     regions-none, regions-next            the slots stored so far
+--     region-kept .. layout-there           what each part stored leaves and says
 --     decoded                               the table that a stored table's words say is that table
 use Prim.Native.Nat.{ℕ, zero, suc, _+_, _*_, _≤_, _<_}
 use native.Mathlib.Omega.{arith}
 use native.Mathlib.Decide.{decLe}
 use native.Mathlib.Numerals.{add-one}
-use native.Mathlib.Nat.{add-zero, eq-or-lt-of-le, le-of-suc-le-suc, not-suc-le-zero}
+use native.Mathlib.Nat.{add-zero, eq-or-lt-of-le, not-suc-le-zero}
 use mathlib.Core.Path.{_≡_, refl, sym, ap, _∙_, subst}
 use mathlib.Core.Logic.{⊎-elim}
-use mathlib.Core.Bool.{Bool, true, false}
-use mathlib.Core.List.{List, [], _∷_}
-use lib.ListN.{length, getD, set, length-set}
-use lib.Dec.{eqb·suc-zero}
+use mathlib.Core.List.{List}
+use lib.ListN.{length, getD, set}
 use lib.Seq.{getD-set-same, getD-set-other, ext-getD}
 use Rattle.elements.proofs.TabulateLaws.{length-tabulate, getD-tabulate}
 use Rattle.layout.specs.declared.CubeLayout.{CubeLayout}
 use Rattle.regions.specs.declared.Region.{Region}
 use Rattle.regions.specs.declared.RegionTable.{RegionTable}
 use Rattle.olsketina.specs.Words.{word}
-use Rattle.olsketina.specs.Tables.{layoutAt, says, regionAt, slotsAt, tableAt, flagWord, withWords, layoutWords, regionWords, withLayout, withRegion, noRegion, withRegions, withTable}
-
--- ---- words stored one after another
-pub withWords-length : (xs : List ℕ) (at i : ℕ) (l : List ℕ) → length (withWords xs at i l) ≡ length l
-unfolding withWords
-withWords-length [] at i l = refl
-withWords-length (x ∷ xs) at i l = withWords-length xs at (suc i) (set l (at + i) x) ∙ length-set l (at + i) x
-
-withWords-before : (xs : List ℕ) (at i : ℕ) (l : List ℕ) (p : ℕ) → p < at + i → word (withWords xs at i l) p ≡ word l p
-unfolding withWords
-withWords-before [] at i l p h = refl
-withWords-before (x ∷ xs) at i l p h =
-    withWords-before xs at (suc i) (set l (at + i) x) p (omega arith) ∙ getD-set-other l (at + i) p x 0 (λ s. let z : ⊥ = omega arith in z)
-
-withWords-after : (xs : List ℕ) (at i : ℕ) (l : List ℕ) (p : ℕ) → at + i + length xs ≤ p → word (withWords xs at i l) p ≡ word l p
-unfolding withWords
-withWords-after [] at i l p h = refl
-withWords-after (x ∷ xs) at i l p h =
-    withWords-after xs at (suc i) (set l (at + i) x) p (omega arith) ∙ getD-set-other l (at + i) p x 0 (λ s. let z : ⊥ = omega arith in z)
-
-pub withWords-at : (xs : List ℕ) (at i : ℕ) (l : List ℕ) → at + i + length xs ≤ length l → (j : ℕ) → j < length xs → word (withWords xs at i l) (at + i + j) ≡ getD xs j 0
-unfolding withWords
-withWords-at [] at i l room j h = absurd (not-suc-le-zero h)
-withWords-at (x ∷ xs) at i l room zero h =
-    withWords-before xs at (suc i) (set l (at + i) x) (at + i + 0) (omega arith)
-    ∙ ap (λ (p : ℕ). word (set l (at + i) x) p) (add-zero (at + i))
-    ∙ getD-set-same l (at + i) x 0 (omega arith)
-withWords-at (x ∷ xs) at i l room (suc j) h =
-    ap (λ (p : ℕ). word (withWords xs at (suc i) (set l (at + i) x)) p) (omega arith)
-    ∙ withWords-at xs at (suc i) (set l (at + i) x) (subst (λ (n : ℕ). at + suc i + length xs ≤ n) (sym (length-set l (at + i) x)) (omega arith)) j (le-of-suc-le-suc h)
-
-pub withLayout-length : (q : CubeLayout) (at : ℕ) (l : List ℕ) → length (withLayout q at l) ≡ length l
-unfolding withLayout
-withLayout-length q at l = withWords-length (layoutWords q) at 0 l
-
-pub withRegion-length : (g : Region) (at : ℕ) (l : List ℕ) → length (withRegion g at l) ≡ length l
-unfolding withRegion
-withRegion-length g at l = withWords-length (regionWords g (word l at)) at 0 l
-
-pub withRegions-length : (slots : List Region) (at n : ℕ) (l : List ℕ) → length (withRegions slots at n l) ≡ length l
-unfolding withRegions
-withRegions-length slots at zero l = refl
-withRegions-length slots at (suc n) l =
-    withRegion-length (getD slots n noRegion) (at + 5 * n) (withRegions slots at n l) ∙ withRegions-length slots at n l
-
-pub withTable-length : (t : RegionTable) (at : ℕ) (l : List ℕ) → length (withTable t at l) ≡ length l
-unfolding withTable
-withTable-length t at l = withRegions-length (t .slots) (at + 7) 16 (withLayout (t .layout) at l) ∙ withLayout-length (t .layout) at l
+use Rattle.olsketina.specs.Tables.{layoutAt, regionAt, slotsAt, tableAt, flagWord, withWords, layoutWords, regionWords, withLayout, withRegion, noRegion, withRegions, withTable}
+use Rattle.olsketina.proofs.StoreLaws.{withWords-before, withWords-after, withWords-at, withLayout-length, withRegions-length, says-flag}
 
 -- ---- the slots read so far
 
@@ -102,20 +54,13 @@ regions-next slots at n before e f = rw (add-one n) (f ∙ ap (withRegion (getD 
 
 -- ---- stored and read back
 
--- a flag's word says the flag
-pub says-flag : (yes : Bool) (old : ℕ) → says (flagWord yes old) ≡ yes
-unfolding says flagWord
-says-flag false old = refl
-says-flag true zero = refl
-says-flag true (suc old) = rw (eqb·suc-zero old) (rw (eqb·suc-zero old))
-
 module _ (g : Region) (at : ℕ) (l : List ℕ) where
-  region-kept : (p : ℕ) → (at ≤ p → p < at + 5 → ⊥) → word (withRegion g at l) p ≡ word l p
+  pub region-kept : (p : ℕ) → (at ≤ p → p < at + 5 → ⊥) → word (withRegion g at l) p ≡ word l p
   unfolding withRegion regionWords
   region-kept p out =
       elim (decLe at p) [ yes h ↦ withWords-after (regionWords g (word l at)) at 0 l p (elim (decLe (at + 5) p) [ yes k ↦ omega arith | no f ↦ absurd (out h (omega arith)) ]) | no f ↦ withWords-before (regionWords g (word l at)) at 0 l p (omega arith) ]
 
-  region-word : at + 5 ≤ length l → (j : ℕ) → j < 5 → word (withRegion g at l) (at + j) ≡ getD (regionWords g (word l at)) j 0
+  pub region-word : at + 5 ≤ length l → (j : ℕ) → j < 5 → word (withRegion g at l) (at + j) ≡ getD (regionWords g (word l at)) j 0
   unfolding withRegion regionWords
   region-word room j h =
       ap (λ (p : ℕ). word (withWords (regionWords g (word l at)) at 0 l) p) (omega arith) ∙ withWords-at (regionWords g (word l at)) at 0 l (omega arith) j h
@@ -154,7 +99,7 @@ regions-there slots at (suc n) l room j h =
     (eq-or-lt-of-le (let k : j ≤ n = omega arith in k))
 
 -- words before the slots stay
-regions-before : (slots : List Region) (at n : ℕ) (l : List ℕ) (p : ℕ) → p < at → word (withRegions slots at n l) p ≡ word l p
+pub regions-before : (slots : List Region) (at n : ℕ) (l : List ℕ) (p : ℕ) → p < at → word (withRegions slots at n l) p ≡ word l p
 unfolding withRegions
 regions-before slots at zero l p h = refl
 regions-before slots at (suc n) l p h =
@@ -165,8 +110,13 @@ pub table-before : (t : RegionTable) (at : ℕ) (l : List ℕ) (p : ℕ) → p <
 unfolding withTable withLayout
 table-before t at l p h = regions-before (t .slots) (at + 7) 16 (withLayout (t .layout) at l) p (omega arith) ∙ withWords-before (layoutWords (t .layout)) at 0 l p (omega arith)
 
+-- words after a layout's stay
+pub layout-after : (q : CubeLayout) (at : ℕ) (l : List ℕ) (p : ℕ) → at + 7 ≤ p → word (withLayout q at l) p ≡ word l p
+unfolding withLayout layoutWords
+layout-after q at l p h = withWords-after (layoutWords q) at 0 l p (omega arith)
+
 -- a layout stored is read back
-layout-word : (q : CubeLayout) (at : ℕ) (l : List ℕ) → at + 7 ≤ length l → (j : ℕ) → j < 7 → word (withLayout q at l) (at + j) ≡ getD (layoutWords q) j 0
+pub layout-word : (q : CubeLayout) (at : ℕ) (l : List ℕ) → at + 7 ≤ length l → (j : ℕ) → j < 7 → word (withLayout q at l) (at + j) ≡ getD (layoutWords q) j 0
 unfolding withLayout layoutWords
 layout-word q at l room j h = ap (λ (p : ℕ). word (withWords (layoutWords q) at 0 l) p) (omega arith) ∙ withWords-at (layoutWords q) at 0 l (omega arith) j h
 

@@ -4,7 +4,8 @@ use native.Mathlib.Omega.{arith}
 use mathlib.Core.Path.{_≡_, ap, _∙_}
 use lib.ListN.{length}
 use Rattle.olsketina.specs.Tables.{withRegions}
-use Rattle.olsketina.proofs.TableLaws.{withRegions-length, regions-none, regions-next}
+use Rattle.olsketina.proofs.StoreLaws.{withRegions-length}
+use Rattle.olsketina.proofs.TableLaws.{regions-none, regions-next}
 use Rattle.olsketina.proofs.tables.put_slots.Statement.{statement}
 use Rattle.olsketina.proofs.tables.put_slots.Tie as tie
 
