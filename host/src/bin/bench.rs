@@ -7,23 +7,17 @@ use std::ops::{Deref, DerefMut};
 #[path = "../loops.rs"]
 mod loops;
 
+use olsketina_host::{calls, Answer, LookupSettings};
+
 use loops::{
     CubeLayout, ElementBox, LutSettings, Region, RegionTable, Slope, Table, WeightLayout, XMode,
 };
 
-// ---- the library's calls (include/olsketina.h)
+// ---- the library's calls
 
-#[rustfmt::skip]
-#[link(name = "olsketina", kind = "static")]
-extern "C" {
-    fn olsketina_cube_pack(layout: *const u32, elements: *const i16, elements_len: usize, buffer: *mut u8, buffer_len: usize, place: *mut usize) -> u32;
-    fn olsketina_cube_unpack(layout: *const u32, buffer: *const u8, buffer_len: usize, elements: *mut i16, elements_len: usize, place: *mut usize) -> u32;
-    fn olsketina_regions_empty(layout: *const u32, table: *mut u32);
-    fn olsketina_regions_place(table: *mut u32, slot: u32, column: u32, row: u32, columns: u32, rows: u32, place: *mut usize) -> u32;
-    fn olsketina_regions_edit(table: *const u32, slot: u32, part: *const u32, elements: *const i16, elements_len: usize, buffer: *mut u8, buffer_len: usize, place: *mut usize) -> u32;
-    fn olsketina_weights_pack(weights: *const u32, elements: *const i16, elements_len: usize, buffer: *mut u8, buffer_len: usize, place: *mut usize) -> u32;
-    fn olsketina_lut_run_linear(x: *const i32, y: *const i32, scales: *const i16, shifts: *const i32, priorities: *const u32, xs: *const i16, xs_len: usize, ys: *const i16, ys_len: usize, samples: *const i32, samples_len: usize, outputs: *mut i32, outputs_len: usize, counters: *mut u32, place: *mut usize) -> u32;
-    fn olsketina_lut_run_exponential(x: *const i32, y: *const i32, scales: *const i16, shifts: *const i32, priorities: *const u32, xs: *const i16, xs_len: usize, ys: *const i16, ys_len: usize, samples: *const i32, samples_len: usize, outputs: *mut i32, outputs_len: usize, counters: *mut u32, place: *mut usize) -> u32;
+/// Every call timed here is one that is accepted.
+fn accepted(answer: Answer) {
+    assert_eq!(answer, Answer { code: 0, place: 0 }, "refused");
 }
 
 fn cube_words(q: &CubeLayout) -> [u32; 7] {
@@ -38,75 +32,10 @@ fn cube_words(q: &CubeLayout) -> [u32; 7] {
     ]
 }
 
-fn pack(layout: &[u32; 7], elements: &[i16], buffer: &mut [u8]) {
-    let mut place = 0;
-    let answer = unsafe {
-        olsketina_cube_pack(
-            layout.as_ptr(),
-            elements.as_ptr(),
-            elements.len(),
-            buffer.as_mut_ptr(),
-            buffer.len(),
-            &mut place,
-        )
-    };
-    assert_eq!((answer, place), (0, 0), "pack is refused");
-}
-
-fn unpack(layout: &[u32; 7], buffer: &[u8], elements: &mut [i16]) {
-    let mut place = 0;
-    let answer = unsafe {
-        olsketina_cube_unpack(
-            layout.as_ptr(),
-            buffer.as_ptr(),
-            buffer.len(),
-            elements.as_mut_ptr(),
-            elements.len(),
-            &mut place,
-        )
-    };
-    assert_eq!((answer, place), (0, 0), "unpack is refused");
-}
-
-fn edit(table: &[u32; 87], slot: u32, part: &[u32; 6], elements: &[i16], buffer: &mut [u8]) {
-    let mut place = 0;
-    let answer = unsafe {
-        olsketina_regions_edit(
-            table.as_ptr(),
-            slot,
-            part.as_ptr(),
-            elements.as_ptr(),
-            elements.len(),
-            buffer.as_mut_ptr(),
-            buffer.len(),
-            &mut place,
-        )
-    };
-    assert_eq!((answer, place), (0, 0), "edit is refused");
-}
-
-fn pack_weights(layout: &[u32; 5], elements: &[i16], buffer: &mut [u8]) {
-    let mut place = 0;
-    let answer = unsafe {
-        olsketina_weights_pack(
-            layout.as_ptr(),
-            elements.as_ptr(),
-            elements.len(),
-            buffer.as_mut_ptr(),
-            buffer.len(),
-            &mut place,
-        )
-    };
-    assert_eq!((answer, place), (0, 0), "pack_weights is refused");
-}
-
+/// A lookup's settings in words, and which of the two calls they are for.
 struct LutWords {
     exponential: bool,
-    x: [i32; 3],
-    y: [i32; 3],
-    scales: [i16; 4],
-    shifts: [i32; 4],
-    priorities: [u32; 3],
+    settings: LookupSettings,
 }
 
 fn lookup(
@@ -117,32 +46,12 @@ fn lookup(
     outputs: &mut [i32],
     counters: &mut [u32; 5],
 ) {
-    let call = if words.exponential {
-        olsketina_lut_run_exponential
+    let run = if words.exponential {
+        calls::lut_run_exponential
     } else {
-        olsketina_lut_run_linear
+        calls::lut_run_linear
     };
-    let mut place = 0;
-    let answer = unsafe {
-        call(
-            words.x.as_ptr(),
-            words.y.as_ptr(),
-            words.scales.as_ptr(),
-            words.shifts.as_ptr(),
-            words.priorities.as_ptr(),
-            xs.as_ptr(),
-            xs.len(),
-            ys.as_ptr(),
-            ys.len(),
-            samples.as_ptr(),
-            samples.len(),
-            outputs.as_mut_ptr(),
-            outputs.len(),
-            counters.as_mut_ptr(),
-            &mut place,
-        )
-    };
-    assert_eq!((answer, place), (0, 0), "lookup is refused");
+    accepted(run(&words.settings, xs, ys, samples, outputs, counters));
 }
 
 // ---- inputs and buffers
@@ -373,7 +282,7 @@ fn pack_job(name: &'static str, q: CubeLayout, bar: f64) -> Row {
     let same = elements.clone();
     let mut ours = Lent::new(LEFT, bytes);
     let mut plain = Lent::new(LEFT, bytes);
-    pack(&words, &elements, &mut ours);
+    accepted(calls::cube_pack(&words, &elements, &mut ours));
     loops::pack(&q, &elements, &mut plain).expect("packed");
     assert!(*ours == *plain, "{name}: the two buffers differ");
     let job = Job {
@@ -387,7 +296,7 @@ fn pack_job(name: &'static str, q: CubeLayout, bar: f64) -> Row {
         job,
         &mut |step| match step {
             Step::Clear => ours.fill(0),
-            Step::Run => pack(&words, &elements, black_box(&mut ours)),
+            Step::Run => accepted(calls::cube_pack(&words, &elements, black_box(&mut ours))),
         },
         &mut |step| match step {
             Step::Clear => plain.fill(0),
@@ -405,7 +314,7 @@ fn unpack_job(name: &'static str, q: CubeLayout, bar: f64) -> Row {
     let same = buffer.clone();
     let mut ours = Lent::new(0, cells);
     let mut plain = Lent::new(0, cells);
-    unpack(&words, &buffer, &mut ours);
+    accepted(calls::cube_unpack(&words, &buffer, &mut ours));
     loops::unpack(&q, &buffer, &mut plain).expect("unpacked");
     assert!(
         *ours == *plain && *ours == *elements,
@@ -422,7 +331,7 @@ fn unpack_job(name: &'static str, q: CubeLayout, bar: f64) -> Row {
         job,
         &mut |step| match step {
             Step::Clear => ours.fill(0),
-            Step::Run => unpack(&words, &buffer, black_box(&mut ours)),
+            Step::Run => accepted(calls::cube_unpack(&words, &buffer, black_box(&mut ours))),
         },
         &mut |step| match step {
             Step::Clear => plain.fill(0),
@@ -463,20 +372,15 @@ fn edit_job(name: &'static str, q: CubeLayout, bar: f64) -> Row {
     };
     table.slots[SLOT as usize] = Some(region);
     let mut words = [0; 87];
-    let mut place = 0;
-    let answer = unsafe {
-        olsketina_regions_empty(cube_words(&q).as_ptr(), words.as_mut_ptr());
-        olsketina_regions_place(
-            words.as_mut_ptr(),
-            SLOT,
-            region.column,
-            region.row,
-            region.columns,
-            region.rows,
-            &mut place,
-        )
-    };
-    assert_eq!((answer, place), (0, 0), "place is refused");
+    calls::regions_empty(&cube_words(&q), &mut words);
+    accepted(calls::regions_place(
+        &mut words,
+        SLOT,
+        region.column,
+        region.row,
+        region.columns,
+        region.rows,
+    ));
     let part_words = [
         part.channel,
         part.row,
@@ -491,7 +395,13 @@ fn edit_job(name: &'static str, q: CubeLayout, bar: f64) -> Row {
     let same = elements.clone();
     let mut ours = Lent::new(LEFT, bytes);
     let mut plain = Lent::new(LEFT, bytes);
-    edit(&words, SLOT, &part_words, &elements, &mut ours);
+    accepted(calls::regions_edit(
+        &words,
+        SLOT,
+        &part_words,
+        &elements,
+        &mut ours,
+    ));
     loops::edit(&table, SLOT, &part, &elements, &mut plain).expect("edited");
     assert!(*ours == *plain, "{name}: the two buffers differ");
     let job = Job {
@@ -507,7 +417,13 @@ fn edit_job(name: &'static str, q: CubeLayout, bar: f64) -> Row {
         job,
         &mut |step| match step {
             Step::Clear => clear(&mut ours),
-            Step::Run => edit(&words, SLOT, &part_words, &elements, black_box(&mut ours)),
+            Step::Run => accepted(calls::regions_edit(
+                &words,
+                SLOT,
+                &part_words,
+                &elements,
+                black_box(&mut ours),
+            )),
         },
         &mut |step| match step {
             Step::Clear => clear(&mut plain),
@@ -538,7 +454,7 @@ fn weights_job(name: &'static str, layout: WeightLayout, bar: f64) -> Row {
     let same = elements.clone();
     let mut ours = Lent::new(LEFT, bytes);
     let mut plain = Lent::new(LEFT, bytes);
-    pack_weights(&words, &elements, &mut ours);
+    accepted(calls::weights_pack(&words, &elements, &mut ours));
     loops::pack_weights(&layout, &elements, &mut plain).expect("packed");
     assert!(*ours == *plain, "{name}: the two buffers differ");
     let job = Job {
@@ -552,7 +468,7 @@ fn weights_job(name: &'static str, layout: WeightLayout, bar: f64) -> Row {
         job,
         &mut |step| match step {
             Step::Clear => ours.fill(0),
-            Step::Run => pack_weights(&words, &elements, black_box(&mut ours)),
+            Step::Run => accepted(calls::weights_pack(&words, &elements, black_box(&mut ours))),
         },
         &mut |step| match step {
             Step::Clear => plain.fill(0),
@@ -601,13 +517,16 @@ fn lut_words(s: &LutSettings) -> LutWords {
         XMode::Exponential(offset) => (true, offset),
     };
     let slopes = [s.x_below, s.x_above, s.y_below, s.y_above];
-    LutWords {
-        exponential,
+    let settings = LookupSettings {
         x: [number, s.x_start, s.x_end],
         y: [s.y_select, s.y_start, s.y_end],
         scales: slopes.map(|slope| slope.scale),
         shifts: slopes.map(|slope| slope.shift),
         priorities: [s.priority, s.overflow, s.underflow].map(|table| table as u32),
+    };
+    LutWords {
+        exponential,
+        settings,
     }
 }
 
