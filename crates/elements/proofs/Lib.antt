@@ -1,4 +1,5 @@
 -- Laws of the definitions of specs/, for the crates above; the last four serve this crate alone.
+--     Computed    bytes and values, computed
 --     ListLaws    a list made anew by position: its length and its entries
 --     TabulateLaws   a list given by position: its length and its entries
 --     Toward      lists that come nearer to a goal list, store by store
@@ -8,6 +9,7 @@
 --     SignLaws    signed numbers as the code computes them: the bits of a 16-bit number, and back
 --     OrderLaws   the order of signed numbers as a test, and the bounds of the lesser and the greater of two
 --     ScanLaws    the code's tests of an element, and a pass over the first elements
+pub mod Computed
 pub mod ListLaws
 pub mod TabulateLaws
 pub mod Toward

@@ -1,4 +1,5 @@
 -- Laws of the definitions of specs/, for the crates above.
+--     Computed        the paper's frame, owners and the orders, computed
 --     Taken           what an accepted layout tells
 --     RuleLaws        checks 1 to 4 as the code goes through them
 --     Atoms           a byte's atom by division, and the paper's formula
@@ -10,6 +11,7 @@
 --     Formulas        the paper's formula and its converse; packing by it
 --     RoundTrip       what is packed is read back
 --     Places          the statements about places, padding and the round trip
+pub mod Computed
 pub mod Taken
 pub mod RuleLaws
 pub mod Atoms

@@ -18,8 +18,8 @@ pub extern "C" fn olsketina_cube_pack(
     ensures answered { λ r. ⌜ Answered (packAnswer (layoutFrom (now (layout .entry))) (now (elements .entry)) (length (now (buffer .entry)))) r (now (place .exit)) ⌝ }
     ensures left { λ r. ⌜ now (buffer .exit) ≡ packBuffer (layoutFrom (now (layout .entry))) (now (elements .entry)) (now (buffer .entry)) ⌝ }
 {
-    let a = cube::pack(words::layout_of(layout), elements, buffer);
-    answers::give(a, place)
+    let packed = cube::pack(words::layout_of(layout), elements, buffer);
+    answers::give(packed, place)
 }
 
 // cube::unpack
@@ -33,8 +33,8 @@ pub extern "C" fn olsketina_cube_unpack(
     ensures answered { λ r. ⌜ Answered (unpackAnswer (layoutFrom (now (layout .entry))) (length (now (elements .entry))) (length (now (buffer .entry)))) r (now (place .exit)) ⌝ }
     ensures left { λ r. ⌜ now (elements .exit) ≡ unpackElements (layoutFrom (now (layout .entry))) (now (buffer .entry)) (now (elements .entry)) ⌝ }
 {
-    let a = cube::unpack(words::layout_of(layout), buffer, elements);
-    answers::give(a, place)
+    let unpacked = cube::unpack(words::layout_of(layout), buffer, elements);
+    answers::give(unpacked, place)
 }
 
 // cube::write_box
@@ -49,13 +49,13 @@ pub extern "C" fn olsketina_cube_write_box(
     ensures answered { λ r. ⌜ Answered (writeBoxAnswer (layoutFrom (now (layout .entry))) (boxFrom (now (area .entry))) (now (elements .entry)) (length (now (buffer .entry)))) r (now (place .exit)) ⌝ }
     ensures left { λ r. ⌜ now (buffer .exit) ≡ writeBoxBuffer (layoutFrom (now (layout .entry))) (boxFrom (now (area .entry))) (now (elements .entry)) (now (buffer .entry)) ⌝ }
 {
-    let a = cube::write_box(
+    let written = cube::write_box(
         words::layout_of(layout),
         words::box_of(area),
         elements,
         buffer,
     );
-    answers::give(a, place)
+    answers::give(written, place)
 }
 
 // cube::read_box
@@ -70,13 +70,13 @@ pub extern "C" fn olsketina_cube_read_box(
     ensures answered { λ r. ⌜ Answered (readBoxAnswer (layoutFrom (now (layout .entry))) (boxFrom (now (area .entry))) (length (now (elements .entry))) (length (now (buffer .entry)))) r (now (place .exit)) ⌝ }
     ensures left { λ r. ⌜ now (elements .exit) ≡ readBoxElements (layoutFrom (now (layout .entry))) (boxFrom (now (area .entry))) (now (buffer .entry)) (now (elements .entry)) ⌝ }
 {
-    let a = cube::read_box(
+    let read = cube::read_box(
         words::layout_of(layout),
         words::box_of(area),
         buffer,
         elements,
     );
-    answers::give(a, place)
+    answers::give(read, place)
 }
 
 // cube::position
@@ -91,6 +91,6 @@ pub extern "C" fn olsketina_cube_position(
 ) -> u32
     ensures { λ r. ⌜ Valued (positionQuantity (layoutFrom (now (layout .entry))) channel row column) (now (value .entry)) r (now (value .exit)) (now (place .exit)) ⌝ }
 {
-    let n = cube::position(words::layout_of(layout), channel, row, column);
-    answers::give_quantity(n, value, place)
+    let position = cube::position(words::layout_of(layout), channel, row, column);
+    answers::give_quantity(position, value, place)
 }

@@ -58,8 +58,8 @@ pub extern "C" fn olsketina_elements_check_values(
 ) -> u32
     ensures { λ r. ⌜ Answered (inOrder (valueChecks precision (now (elements .entry)))) r (now (place .exit)) ⌝ }
 {
-    let a = elements::check_values(precision, elements);
-    answers::give(a, place)
+    let checked = elements::check_values(precision, elements);
+    answers::give(checked, place)
 }
 
 // integers::saturate

@@ -14,8 +14,8 @@ use crate::words;
 pub extern "C" fn olsketina_layout_check(layout: &[u32; 7], place: &mut usize) -> u32
     ensures { λ r. ⌜ Answered (inOrder (layoutChecks (layoutFrom (now (layout .entry))))) r (now (place .exit)) ⌝ }
 {
-    let a = layout::check(words::layout_of(layout));
-    answers::give(a, place)
+    let checked = layout::check(words::layout_of(layout));
+    answers::give(checked, place)
 }
 
 // layout::extent
@@ -27,8 +27,8 @@ pub extern "C" fn olsketina_layout_extent(
 ) -> u32
     ensures { λ r. ⌜ Valued (extentQuantity (layoutFrom (now (layout .entry)))) (now (value .entry)) r (now (value .exit)) (now (place .exit)) ⌝ }
 {
-    let n = layout::extent(words::layout_of(layout));
-    answers::give_quantity(n, value, place)
+    let extent = layout::extent(words::layout_of(layout));
+    answers::give_quantity(extent, value, place)
 }
 
 // layout::check_box
@@ -40,8 +40,8 @@ pub extern "C" fn olsketina_layout_check_box(
 ) -> u32
     ensures { λ r. ⌜ Answered (inOrder (boxChecks (layoutFrom (now (layout .entry))) (boxFrom (now (area .entry))))) r (now (place .exit)) ⌝ }
 {
-    let a = layout::check_box(words::layout_of(layout), words::box_of(area));
-    answers::give(a, place)
+    let inside = layout::check_box(words::layout_of(layout), words::box_of(area));
+    answers::give(inside, place)
 }
 
 // layout::admit
@@ -55,8 +55,8 @@ pub extern "C" fn olsketina_layout_admit(
 ) -> u32
     ensures { λ r. ⌜ Answered (inOrder (admitChecks (layoutFrom (now (layout .entry))) (boxFrom (now (area .entry))) given length)) r (now (place .exit)) ⌝ }
 {
-    let a = layout::admit(words::layout_of(layout), words::box_of(area), given, length);
-    answers::give(a, place)
+    let admitted = layout::admit(words::layout_of(layout), words::box_of(area), given, length);
+    answers::give(admitted, place)
 }
 
 // layout::span_inside

@@ -12,8 +12,8 @@ use crate::words;
 pub extern "C" fn olsketina_pixels_setting(image: &[u32; 8], place: &mut usize) -> u32
     ensures { λ r. ⌜ Answered (settingAnswer (imageFrom (now (image .entry)))) r (now (place .exit)) ⌝ }
 {
-    let a = pixels::setting(words::image_of(image));
-    answers::give(a, place)
+    let checked = pixels::setting(words::image_of(image));
+    answers::give(checked, place)
 }
 
 // pixels::position
@@ -27,8 +27,8 @@ pub extern "C" fn olsketina_pixels_position(
 ) -> u32
     ensures { λ r. ⌜ Valued (positionQuantity (imageFrom (now (image .entry))) x y) (now (value .entry)) r (now (value .exit)) (now (place .exit)) ⌝ }
 {
-    let n = pixels::position(words::image_of(image), x, y);
-    answers::give_quantity(n, value, place)
+    let position = pixels::position(words::image_of(image), x, y);
+    answers::give_quantity(position, value, place)
 }
 
 // quantize::convert
@@ -44,6 +44,6 @@ pub extern "C" fn olsketina_quantize_convert(
 ) -> u32
     ensures { λ r. ⌜ Converted (quantizeAnswer d offset scale shift precision) (now (value .entry)) r (now (value .exit)) (now (place .exit)) ⌝ }
 {
-    let v = quantize::convert(d, offset, scale, shift, precision);
-    answers::give_converted(v, value, place)
+    let converted = quantize::convert(d, offset, scale, shift, precision);
+    answers::give_converted(converted, value, place)
 }

@@ -18,8 +18,8 @@ pub extern "C" fn olsketina_weights_pack(
     ensures answered { λ r. ⌜ Answered (packAnswer (weightsFrom (now (weights .entry))) (now (elements .entry)) (length (now (buffer .entry)))) r (now (place .exit)) ⌝ }
     ensures left { λ r. ⌜ now (buffer .exit) ≡ packBuffer (weightsFrom (now (weights .entry))) (now (elements .entry)) (now (buffer .entry)) ⌝ }
 {
-    let a = weights::pack(words::weights_of(weights), elements, buffer);
-    answers::give(a, place)
+    let packed = weights::pack(words::weights_of(weights), elements, buffer);
+    answers::give(packed, place)
 }
 
 // weights::unpack
@@ -33,6 +33,6 @@ pub extern "C" fn olsketina_weights_unpack(
     ensures answered { λ r. ⌜ Answered (unpackAnswer (weightsFrom (now (weights .entry))) (length (now (elements .entry))) (length (now (buffer .entry)))) r (now (place .exit)) ⌝ }
     ensures left { λ r. ⌜ now (elements .exit) ≡ unpackElements (weightsFrom (now (weights .entry))) (now (buffer .entry)) (now (elements .entry)) ⌝ }
 {
-    let a = weights::unpack(words::weights_of(weights), buffer, elements);
-    answers::give(a, place)
+    let unpacked = weights::unpack(words::weights_of(weights), buffer, elements);
+    answers::give(unpacked, place)
 }

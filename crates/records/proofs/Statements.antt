@@ -54,6 +54,8 @@ readable = record { frame = refl; stall = refl; second = refl; cell = refl; grea
 pub record NotReadable : Type 0 where
   -- an empty line
   pub empty : recordOf [] ≡ Unreadable
+  -- `cell` 0, an empty field, 1 1
+  pub gap : recordOf (line cellWord ((0 ∷ []) ∷ [] ∷ (1 ∷ []) ∷ (1 ∷ []) ∷ [])) ≡ Unreadable
   -- `stall` 00 0 0 2 2: a leading zero
   pub zero : recordOf (line stallWord ((0 ∷ 0 ∷ []) ∷ (0 ∷ []) ∷ (0 ∷ []) ∷ (2 ∷ []) ∷ (2 ∷ []) ∷ [])) ≡ Unreadable
   -- `cell` 0 0 0 4294967296
@@ -73,4 +75,4 @@ pub record NotReadable : Type 0 where
 pub not-readable : NotReadable
 unfolding before split fieldsOf isDigit allDigits valueAfter isEmpty wellBegun numberOf andNumber numbersOf sameText shaped byWord byFields recordOf
 not-readable =
-    record { empty = refl; zero = refl; over = refl; tab = refl; return = refl; missing = refl; extra = refl; colon = refl; long = record-long }
+    record { empty = refl; gap = refl; zero = refl; over = refl; tab = refl; return = refl; missing = refl; extra = refl; colon = refl; long = record-long }

@@ -17,10 +17,14 @@ use Rattle.records.specs.Records.{andNumber, numbersOf, sameText, frameWord, st
 use Rattle.script.specs.declared.Row.{Row}
 use Rattle.script.specs.Rows.{framedOr, recordAnswer, recordValue, recordDone, valueAfter, deskAfter}
 use Rattle.script.specs.Sheets.{nextLine, rowOf, rowsAfter, sheet}
+use Rattle.script.specs.Feed.{startSheet, deskOf, longer, kept, withByte, lineRecord, lineEnded, lineRow, fedFrom, fed, finished, andThen, partRows, rowsOfParts}
 
--- what a row prints: line, answer and value
+-- what rows print: line, answer and value
+abbrev lines : List Row → List (List ℕ)
+lines rows = map (λ (r : Row). r .line ∷ answerCode (r .answer) ∷ r .value ∷ []) rows
+
 abbrev printed : List ℕ → List (List ℕ)
-printed input = map (λ (r : Row). r .line ∷ answerCode (r .answer) ∷ r .value ∷ []) (sheet input)
+printed input = lines (sheet input)
 
 -- frame 3 2 40 0 128 256 0
 abbrev frame : List ℕ
@@ -59,9 +63,12 @@ pub record Computed : Type 0 where
       ≡ (1 ∷ 1 ∷ 0 ∷ []) ∷ (2 ∷ 24 ∷ 0 ∷ []) ∷ (3 ∷ 0 ∷ 480 ∷ []) ∷ (4 ∷ 0 ∷ 160 ∷ []) ∷ (5 ∷ 1 ∷ 0 ∷ []) ∷ (6 ∷ 8 ∷ 0 ∷ []) ∷ (7 ∷ 9 ∷ 0 ∷ []) ∷ (8 ∷ 0 ∷ 417 ∷ []) ∷ []
   -- an accepted second frame empties the slots
   pub emptied : printed (frame ++ stall ++ frame ++ cell) ≡ (1 ∷ 0 ∷ 480 ∷ []) ∷ (2 ∷ 0 ∷ 160 ∷ []) ∷ (3 ∷ 0 ∷ 480 ∷ []) ∷ (4 ∷ 8 ∷ 0 ∷ []) ∷ []
+  -- fed in two parts, cut within the second line; the last line lacks its newline
+  pub parts : lines (rowsOfParts startSheet ((frame ++ 115 ∷ 116 ∷ 97 ∷ []) ∷ (108 ∷ 108 ∷ 9 ∷ 48 ∷ 9 ∷ 48 ∷ 9 ∷ 48 ∷ 9 ∷ 50 ∷ 9 ∷ 50 ∷ 10 ∷ cell) ∷ []))
+      ≡ (1 ∷ 0 ∷ 480 ∷ []) ∷ (2 ∷ 0 ∷ 160 ∷ []) ∷ (3 ∷ 0 ∷ 417 ∷ []) ∷ []
   -- no input, no rows
   pub none : printed [] ≡ []
 
 pub computed : Computed
-unfolding requireAt inOrder leaves elementBytes surfaces elementPosition cubeExtent spanInside spanHas sizeTaken sizesTaken wholeAtoms stridesTaken layoutChecks slotOf slotsOf rectangleHas taken anyFrom overlaps rectangleInside slotAt isFilled rectangleOf placeChecks boxInRectangle areaChecks placeAnswer placeTable before split fieldsOf withoutEmptyLast linesOf isDigit allDigits digitsAfter isEmpty wellBegun numberOf andNumber numbersOf sameText shaped byWord byFields recordOf framedOr recordAnswer recordValue recordDone valueAfter deskAfter nextLine rowOf rowsAfter sheet
-computed = record { session = refl; ended = refl; refused = refl; emptied = refl; none = refl }
+unfolding requireAt inOrder leaves elementBytes surfaces elementPosition cubeExtent spanInside spanHas sizeTaken sizesTaken wholeAtoms stridesTaken layoutChecks slotOf slotsOf rectangleHas taken anyFrom overlaps rectangleInside slotAt isFilled rectangleOf placeChecks boxInRectangle areaChecks placeAnswer placeTable before split fieldsOf withoutEmptyLast linesOf isDigit allDigits digitsAfter isEmpty wellBegun numberOf andNumber numbersOf sameText shaped byWord byFields recordOf framedOr recordAnswer recordValue recordDone valueAfter deskAfter nextLine rowOf rowsAfter sheet startSheet deskOf longer kept withByte lineRecord lineEnded lineRow fedFrom fed finished andThen partRows rowsOfParts
+computed = record { session = refl; ended = refl; refused = refl; emptied = refl; parts = refl; none = refl }

@@ -1,0 +1,117 @@
+-- The paper's frame, computed (scope paper, "Worked on squared paper"); whose some bytes are; and of two faults at once the earlier in the order
+-- is told ("Refusal numbers": "Orders"). Assumes nothing.
+use Prim.Native.Nat.{ℕ}
+use mathlib.Core.Path.{_≡_, refl}
+use mathlib.Core.Bool.{true, false}
+use mathlib.Core.List.{[], _∷_, _++_, map}
+use lib.IntN.{pos, negsuc}
+use lib.ListN.{replicate}
+use Rattle.refusal.specs.declared.Refusal.the-variants.{Int8Range}
+use Rattle.refusal.specs.declared.Answer.the-variants.{Refused}
+use Rattle.refusal.specs.Codes.{answerCode}
+use Rattle.refusal.specs.Checks.{requireAt, inOrder}
+use Rattle.refusal.specs.Sizes.{sizeTaken}
+use Rattle.elements.specs.Bytes.{elementBytes, byteOf, wordAt, signed, elementAt}
+use Rattle.elements.specs.Values.{valueTaken, valueCheck, valueChecksFrom, valueChecks}
+use Rattle.layout.specs.declared.CubeLayout.{CubeLayout}
+use Rattle.layout.specs.declared.ElementBox.{ElementBox}
+use Rattle.layout.specs.Geometry.{layoutOf, elementCount, rawIndex, surfaces, elementPosition, cubeExtent}
+use Rattle.layout.specs.Boxes.{oneElement, boxCount, spanInside, boxInside, spanHas, boxHas, boxIndex, channelAt, rowAt, columnAt}
+use Rattle.layout.specs.Owners.{element, padding, outside, surfaceOf, rowOf, columnOf, byteInAtom, inAtom, atomOwner, owner}
+use Rattle.layout.specs.Rules.{sizesTaken, wholeAtoms, stridesTaken, layoutChecks, boxChecks, storageChecks, cubeChecks, admitChecks}
+use Rattle.layout.specs.Contents.{packedByte, editedByte}
+use Rattle.layout.specs.Calls.{packAnswer, unpackAnswer, writeBoxAnswer}
+
+abbrev frame : CubeLayout
+frame = layoutOf 3 2 40 0 128 256 0
+
+-- one element, of a precision, with a start
+abbrev single : ℕ → ℕ → CubeLayout
+single precision start = layoutOf 1 1 1 precision 32 32 start
+
+-- channel 1, row 1, columns 0 and 1 of a cube
+abbrev pair : ElementBox
+pair = record { channel = 1; row = 1; column = 0; channels = 1; rows = 1; columns = 2 }
+
+abbrev answer : CubeLayout → ℕ
+answer q = answerCode (inOrder (layoutChecks q))
+
+pub record Computed : Type 0 where
+  pub position : elementPosition frame 33 1 2 ≡ 449
+  pub extent : cubeExtent frame ≡ 480
+  pub raw : rawIndex frame 1 1 2 ≡ 11
+  pub one-surface : surfaces (layoutOf 1 1 16 1 32 32 0) ≡ 1
+  pub two-surfaces : surfaces (layoutOf 1 1 17 1 32 32 0) ≡ 2
+  -- whose: an element's byte; padding past channel 40; the gap behind a line's last atom; behind the last atom
+  pub own : owner frame 449 ≡ element 33 1 2 0
+  pub pad : owner frame 264 ≡ padding
+  pub gap : owner frame 96 ≡ outside
+  pub behind : owner frame 480 ≡ outside
+  -- packing: −2 is FE, padding 0, a gap stays; writing a box: its second element, another element and padding stay
+  pub packs : packedByte frame (replicate 11 (pos 0) ++ negsuc 1 ∷ []) (element 1 1 2 0) 7 ≡ 254
+  pub clears : packedByte frame [] padding 7 ≡ 0
+  pub leaves-gap : packedByte frame [] outside 7 ≡ 7
+  pub writes : editedByte pair (pos 5 ∷ pos 6 ∷ []) (element 1 1 1 0) 7 ≡ 6
+  pub leaves-other : editedByte pair (pos 5 ∷ pos 6 ∷ []) (element 1 1 2 0) 7 ≡ 7
+  pub leaves-padding : editedByte pair (pos 5 ∷ pos 6 ∷ []) padding 7 ≡ 7
+  -- 3: surface 224 is taken, 192 is not; a line that lacks an atom; also with one row; strides that are no multiples of 32. 4: a start of 16. 2: precision 3. 1
+  pub strides : map answer (layoutOf 3 2 40 0 128 224 0 ∷ layoutOf 3 2 40 0 128 192 0 ∷ layoutOf 3 2 40 0 64 256 0 ∷ layoutOf 3 1 40 0 64 256 0 ∷ layoutOf 3 2 40 0 112 256 0 ∷ layoutOf 3 2 40 0 128 240 0 ∷ [])
+      ≡ 0 ∷ 3 ∷ 3 ∷ 3 ∷ 3 ∷ 3 ∷ []
+  pub others : map answer (layoutOf 3 2 40 0 128 256 16 ∷ layoutOf 3 2 40 3 128 256 0 ∷ layoutOf 3 2 8193 0 128 256 0 ∷ layoutOf 3 0 40 0 128 256 0 ∷ []) ≡ 4 ∷ 2 ∷ 1 ∷ 1 ∷ []
+  -- two at once: 1 and 2, 2 and 3, 3 and 4
+  pub double : map answer (layoutOf 0 2 40 3 128 256 0 ∷ layoutOf 3 2 40 3 0 256 0 ∷ layoutOf 3 2 40 0 0 256 16 ∷ []) ≡ 1 ∷ 2 ∷ 3 ∷ []
+  -- 9: a box that ends with the cube is taken, one column past it is not, nor one of no rows
+  pub inside : boxInside frame (record { channel = 39; row = 1; column = 1; channels = 1; rows = 1; columns = 2 }) ≡ true
+  pub past : boxInside frame (record { channel = 39; row = 1; column = 1; channels = 1; rows = 1; columns = 3 }) ≡ false
+  pub empty : boxInside frame (record { channel = 39; row = 1; column = 1; channels = 1; rows = 0; columns = 2 }) ≡ false
+  -- packing, two at once: 4 and 6, 6 and 5, 5 and 7; 5 and 7 alone; a buffer of the extent is taken
+  pub packing : map (λ (n : ℕ). answerCode (packAnswer (single 0 16) [] n)) (31 ∷ []) ≡ 4 ∷ []
+  pub count-first : answerCode (packAnswer (single 0 0) [] 31) ≡ 6
+  pub room-first : answerCode (packAnswer (single 0 0) (pos 200 ∷ []) 31) ≡ 5
+  pub value : packAnswer (single 0 0) (pos 200 ∷ []) 32 ≡ Refused Int8Range 0
+  pub exact : answerCode (packAnswer (single 0 0) (pos 100 ∷ []) 32) ≡ 0
+  pub start-counts : answerCode (packAnswer (single 0 32) (pos 100 ∷ []) 32) ≡ 5
+  pub reading : answerCode (unpackAnswer (single 0 0) 0 31) ≡ 6
+  -- a box, two at once: 4 and 9, 9 and 6, 6 and 5, 5 and 7
+  pub start-first : answerCode (writeBoxAnswer (single 0 16) (oneElement 1 0 0) [] 31) ≡ 4
+  pub bounds-first : answerCode (writeBoxAnswer (single 0 0) (oneElement 1 0 0) [] 31) ≡ 9
+  pub box-count-first : answerCode (writeBoxAnswer (single 0 0) (oneElement 0 0 0) [] 31) ≡ 6
+  pub box-room-first : answerCode (writeBoxAnswer (single 0 0) (oneElement 0 0 0) (pos 200 ∷ []) 31) ≡ 5
+
+pub computed : Computed
+unfolding requireAt inOrder sizeTaken elementBytes byteOf wordAt signed elementAt valueTaken valueCheck valueChecksFrom valueChecks elementCount rawIndex surfaces elementPosition cubeExtent boxCount spanInside boxInside spanHas boxHas boxIndex channelAt rowAt columnAt surfaceOf rowOf columnOf byteInAtom inAtom atomOwner owner sizesTaken wholeAtoms stridesTaken layoutChecks boxChecks storageChecks cubeChecks admitChecks packedByte editedByte packAnswer unpackAnswer writeBoxAnswer
+computed =
+    record {
+      position = refl;
+      extent = refl;
+      raw = refl;
+      one-surface = refl;
+      two-surfaces = refl;
+      own = refl;
+      pad = refl;
+      gap = refl;
+      behind = refl;
+      packs = refl;
+      clears = refl;
+      leaves-gap = refl;
+      writes = refl;
+      leaves-other = refl;
+      leaves-padding = refl;
+      strides = refl;
+      others = refl;
+      double = refl;
+      inside = refl;
+      past = refl;
+      empty = refl;
+      packing = refl;
+      count-first = refl;
+      room-first = refl;
+      value = refl;
+      exact = refl;
+      start-counts = refl;
+      reading = refl;
+      start-first = refl;
+      bounds-first = refl;
+      box-count-first = refl;
+      box-room-first = refl;
+    }

@@ -1,0 +1,52 @@
+-- Pixel settings and positions, computed; of two faults at once the earlier in the order is told (scope paper, "Pixels"; "Refusal numbers":
+-- "Orders"). Assumes nothing.
+use Prim.Native.Nat.{ℕ}
+use mathlib.Core.Path.{_≡_, refl}
+use mathlib.Core.List.{[], _∷_, map}
+use Rattle.refusal.specs.declared.Refusal.the-variants.{PixelStrides, PixelOutside}
+use Rattle.refusal.specs.declared.Quantity.the-variants.{Is, Denied}
+use Rattle.refusal.specs.Codes.{answerCode}
+use Rattle.refusal.specs.Checks.{requireAt, inOrder, quantity}
+use Rattle.refusal.specs.Sizes.{sizeTaken}
+use Rattle.pixels.specs.declared.PixelSetting.{PixelSetting}
+use Rattle.pixels.specs.Formats.{formatTable, formatIn, formatOf}
+use Rattle.pixels.specs.Settings.{kindTaken, stridesTaken, settingChecks, settingAnswer, pixelPosition, positionQuantity}
+
+-- format, width, height, channels, precision, X offset, start, line
+abbrev image : ℕ → ℕ → ℕ → ℕ → ℕ → ℕ → ℕ → ℕ → PixelSetting
+image format width height channels precision offset start line =
+    record {
+      format = format;
+      width = width;
+      height = height;
+      channels = channels;
+      precision = precision;
+      offset = offset;
+      start = start;
+      line = line;
+    }
+
+abbrev answer : PixelSetting → ℕ
+answer q = answerCode (settingAnswer q)
+
+pub record Computed : Type 0 where
+  -- T_R8 is taken; a line holds its pixels exactly
+  pub accepted : map answer (image 0 3 2 1 0 31 64 64 ∷ image 0 33 1 1 0 31 0 64 ∷ image 8 4 2 4 2 0 0 32 ∷ image 16 1 1 4 0 7 0 32 ∷ []) ≡ 0 ∷ 0 ∷ 0 ∷ 0 ∷ []
+  -- one fault each: 19; width, height; channels, precision; X offset; start, line, a line one pixel short
+  pub single : map answer (image 17 3 2 1 0 31 64 64 ∷ image 0 0 2 1 0 31 64 64 ∷ image 0 3 8193 1 0 31 64 64 ∷ image 0 3 2 2 0 31 64 64 ∷ image 0 3 2 1 1 31 64 64 ∷ image 0 3 2 1 0 32 64 64 ∷ image 0 3 2 1 0 31 16 64 ∷ image 0 3 2 1 0 31 64 48 ∷ image 0 34 2 1 0 31 64 64 ∷ [])
+      ≡ 19 ∷ 1 ∷ 1 ∷ 20 ∷ 20 ∷ 21 ∷ 22 ∷ 22 ∷ 22 ∷ []
+  -- two at once: 19 and 1, 1 and 20, 20 and 21, 21 and 22
+  pub double : map answer (image 17 0 2 1 0 31 64 64 ∷ image 0 0 2 2 0 31 64 64 ∷ image 0 3 2 2 0 32 64 64 ∷ image 0 3 2 1 0 32 16 64 ∷ []) ≡ 19 ∷ 1 ∷ 20 ∷ 21 ∷ []
+  -- code 8 is fp16, code 5 int16
+  pub rows : map answer (image 8 4 2 4 1 0 0 32 ∷ image 5 4 2 1 1 0 0 32 ∷ image 5 4 2 1 2 0 0 32 ∷ []) ≡ 20 ∷ 0 ∷ 20 ∷ []
+  -- pixel (2, 1) of T_A8B8G8R8 with X offset 3: 64 + 96 + 5 · 4; the offset is counted in pixels
+  pub position : positionQuantity (image 12 3 2 4 0 3 64 96) 2 1 ≡ Is 180
+  -- a pixel outside, by its column and by its row; 22 and 23 at once
+  pub column : positionQuantity (image 12 3 2 4 0 3 64 96) 3 1 ≡ Denied PixelOutside 0
+  pub row : positionQuantity (image 12 3 2 4 0 3 64 96) 2 2 ≡ Denied PixelOutside 0
+  pub strides : positionQuantity (image 12 3 2 4 0 3 16 96) 3 1 ≡ Denied PixelStrides 0
+
+pub computed : Computed
+unfolding requireAt inOrder quantity sizeTaken formatTable formatIn formatOf kindTaken stridesTaken settingChecks settingAnswer pixelPosition positionQuantity
+computed =
+    record { accepted = refl; single = refl; double = refl; rows = refl; position = refl; column = refl; row = refl; strides = refl }
