@@ -1,11 +1,10 @@
-//! Safe wrappers over `raw`, one for each function.
+//! Safe wrappers over `raw`, one for each function. The benchmark takes this file a second time, over the functions of a second archive.
 //!
 //! Why each `unsafe` is sound: a slice's pointer is never null, is aligned and is good for the slice's length, which is passed with it; a
 //! setting is an array of exactly the length that the header gives; what is lent for writing is borrowed mutably, so it overlaps nothing else
 //! that is lent; the library takes any contents and keeps no pointer.
 
-use crate::raw;
-use crate::{Answer, LookupSettings};
+use super::{raw, Answer, LookupSettings};
 
 /// Runs a call that stores its place; at first it holds a number that no call stores, so a call that leaves it shows.
 fn answered(call: impl FnOnce(*mut usize) -> u32) -> Answer {

@@ -70,12 +70,12 @@ impl CubeLayout {
         demand(self.start.is_multiple_of(32), 4)
     }
 
-    fn elements(&self) -> u64 {
+    pub fn elements(&self) -> u64 {
         u64::from(self.width) * u64::from(self.height) * u64::from(self.channels)
     }
 
     /// Bytes from the buffer's beginning to the end of the last atom.
-    fn end(&self) -> u64 {
+    pub fn end(&self) -> u64 {
         let surfaces = (self.channels as usize * element_bytes(self.precision)).div_ceil(ATOM);
         u64::from(self.start)
             + (surfaces as u64 - 1) * u64::from(self.surface)
@@ -261,52 +261,104 @@ pub struct WeightLayout {
     pub precision: u32,
 }
 
-/// The loops go in the order of the surface: group, block, place in the kernel, kernel, channel.
-#[inline(never)]
-pub fn pack_weights(layout: &WeightLayout, elements: &[i16], buffer: &mut [u8]) -> Answer {
-    let sizes = size_taken(layout.kernels, 8192)
-        && size_taken(layout.channels, 8192)
-        && size_taken(layout.rows, 32)
-        && size_taken(layout.columns, 32);
-    demand(sizes, 1)?;
-    demand(layout.precision <= 2, 2)?;
-    let kernels = layout.kernels as usize;
-    let channels = layout.channels as usize;
-    let area = (layout.rows * layout.columns) as usize;
-    let bytes = element_bytes(layout.precision);
-    let count = kernels * channels * area;
-    let filled = (count * bytes).next_multiple_of(128);
-    demand(elements.len() == count, 6)?;
-    demand(buffer.len() >= filled, 5)?;
-    check_values(layout.precision, elements)?;
-    let group = ATOM / bytes;
-    let mut at = 0;
-    for k0 in (0..kernels).step_by(group) {
-        for c0 in (0..channels).step_by(64) {
-            let block = (channels - c0).min(64);
-            for place in 0..area {
-                for k in k0..kernels.min(k0 + group) {
-                    let raw = (k * channels + c0) * area + place;
-                    let kernel = &elements[raw..raw + (block - 1) * area + 1];
-                    let out = &mut buffer[at..at + block * bytes];
-                    let mut i = 0;
-                    if bytes == 1 {
-                        for byte in out {
-                            *byte = kernel[i] as u8;
-                            i += area;
-                        }
-                    } else {
-                        for pair in out.chunks_exact_mut(2) {
-                            pair.copy_from_slice(&kernel[i].to_le_bytes());
-                            i += area;
-                        }
+impl WeightLayout {
+    /// Positions in a kernel.
+    fn area(&self) -> usize {
+        (self.rows * self.columns) as usize
+    }
+
+    pub fn elements(&self) -> usize {
+        self.kernels as usize * self.channels as usize * self.area()
+    }
+
+    /// Bytes of the surface, filled to a multiple of 128.
+    pub fn filled(&self) -> usize {
+        (self.elements() * element_bytes(self.precision)).next_multiple_of(128)
+    }
+
+    /// Refusals 1, 2, 6 and 5.
+    fn check(&self, elements: usize, buffer: usize) -> Answer {
+        let sizes = size_taken(self.kernels, 8192)
+            && size_taken(self.channels, 8192)
+            && size_taken(self.rows, 32)
+            && size_taken(self.columns, 32);
+        demand(sizes, 1)?;
+        demand(self.precision <= 2, 2)?;
+        demand(elements == self.elements(), 6)?;
+        demand(buffer >= self.filled(), 5)
+    }
+
+    /// Goes in the order of the surface: group, block, position in the kernel, kernel. `run` gets the byte at which the block's channels begin,
+    /// the raw index of the first of them, and how many there are. The answer is the byte after the last.
+    fn walk(&self, mut run: impl FnMut(usize, usize, usize)) -> usize {
+        let kernels = self.kernels as usize;
+        let channels = self.channels as usize;
+        let area = self.area();
+        let bytes = element_bytes(self.precision);
+        let group = ATOM / bytes;
+        let mut at = 0;
+        for k0 in (0..kernels).step_by(group) {
+            for c0 in (0..channels).step_by(64) {
+                let block = (channels - c0).min(64);
+                for position in 0..area {
+                    for k in k0..kernels.min(k0 + group) {
+                        run(at, (k * channels + c0) * area + position, block);
+                        at += block * bytes;
                     }
-                    at += block * bytes;
                 }
             }
         }
+        at
     }
-    buffer[at..filled].fill(0);
+}
+
+#[inline(never)]
+pub fn pack_weights(layout: &WeightLayout, elements: &[i16], buffer: &mut [u8]) -> Answer {
+    layout.check(elements.len(), buffer.len())?;
+    check_values(layout.precision, elements)?;
+    let area = layout.area();
+    let bytes = element_bytes(layout.precision);
+    let end = layout.walk(|at, raw, block| {
+        let kernel = &elements[raw..raw + (block - 1) * area + 1];
+        let out = &mut buffer[at..at + block * bytes];
+        let mut i = 0;
+        if bytes == 1 {
+            for byte in out {
+                *byte = kernel[i] as u8;
+                i += area;
+            }
+        } else {
+            for pair in out.chunks_exact_mut(2) {
+                pair.copy_from_slice(&kernel[i].to_le_bytes());
+                i += area;
+            }
+        }
+    });
+    buffer[end..layout.filled()].fill(0);
+    Ok(())
+}
+
+#[inline(never)]
+pub fn unpack_weights(layout: &WeightLayout, buffer: &[u8], elements: &mut [i16]) -> Answer {
+    layout.check(elements.len(), buffer.len())?;
+    let area = layout.area();
+    let bytes = element_bytes(layout.precision);
+    layout.walk(|at, raw, block| {
+        let kernel = &mut elements[raw..raw + (block - 1) * area + 1];
+        let from = &buffer[at..at + block * bytes];
+        let mut i = 0;
+        if bytes == 1 {
+            for &byte in from {
+                kernel[i] = i16::from(byte as i8);
+                i += area;
+            }
+        } else {
+            for pair in from.chunks_exact(2) {
+                kernel[i] = i16::from_le_bytes([pair[0], pair[1]]);
+                i += area;
+            }
+        }
+    });
     Ok(())
 }
 
