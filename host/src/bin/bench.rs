@@ -5,6 +5,7 @@ use std::hint::black_box;
 use std::iter::once;
 use std::ops::{Deref, DerefMut, Range};
 use std::slice::from_ref;
+use std::time::Instant;
 
 use olsketina_host::generator::Generator;
 use olsketina_host::{calls, Answer, LookupSettings};
@@ -79,7 +80,9 @@ fn accepted(answer: Answer) {
 
 // ---- buffers
 
-/// A buffer that begins at a multiple of 64 bytes.
+const PAGE: usize = 4096;
+
+/// A buffer that begins at a page's beginning, so that the buffers of all contenders lie alike.
 struct Lent<T> {
     room: Vec<T>,
     first: usize,
@@ -88,8 +91,8 @@ struct Lent<T> {
 
 impl<T: Copy> Lent<T> {
     fn new(value: T, len: usize) -> Self {
-        let room = vec![value; len + 64];
-        let first = room.as_ptr().align_offset(64);
+        let room = vec![value; len + PAGE];
+        let first = room.as_ptr().align_offset(PAGE);
         Lent { room, first, len }
     }
 
@@ -146,6 +149,20 @@ fn clock_cost() -> f64 {
     costs.fold(f64::MAX, f64::min)
 }
 
+/// Nanoseconds of one run: the thread's, and those that passed.
+#[derive(Clone, Copy)]
+struct Run {
+    thread: f64,
+    passed: f64,
+}
+
+impl Run {
+    /// Where a run is interrupted, the thread's clock may miss some microseconds of it.
+    fn interrupted(&self) -> bool {
+        self.passed > 1.05 * self.thread
+    }
+}
+
 /// Nanoseconds of one run.
 struct Times {
     best: f64,
@@ -153,11 +170,16 @@ struct Times {
 }
 
 impl Times {
-    fn of(mut runs: Vec<f64>) -> Self {
-        runs.sort_by(f64::total_cmp);
+    /// Interrupted runs do not count, unless they are more than half.
+    fn of(mut runs: Vec<Run>) -> Self {
+        let interrupted = runs.iter().filter(|run| run.interrupted()).count();
+        if 2 * interrupted <= runs.len() {
+            runs.retain(|run| !run.interrupted());
+        }
+        runs.sort_by(|a, b| a.thread.total_cmp(&b.thread));
         Times {
-            best: runs[0],
-            median: runs[runs.len() / 2],
+            best: runs[0].thread,
+            median: runs[runs.len() / 2].thread,
         }
     }
 }
@@ -198,21 +220,22 @@ const WARM_UP: usize = 3;
 /// In each repetition the contenders run in turn, each after the untimed steps `before`.
 fn interleave(repetitions: usize, before: &[Step], contenders: &mut [Contender]) -> Vec<Times> {
     let cost = clock_cost();
-    let mut times = vec![Vec::new(); contenders.len()];
+    let mut runs = vec![Vec::new(); contenders.len()];
     for repetition in 0..WARM_UP + repetitions {
-        for (contender, times) in contenders.iter_mut().zip(&mut times) {
+        for (contender, runs) in contenders.iter_mut().zip(&mut runs) {
             for &step in before {
                 contender(step);
             }
-            let begin = thread_time();
+            let (begun, begin) = (Instant::now(), thread_time());
             contender(Step::Run);
-            let time = thread_time() - begin - cost;
+            let thread = thread_time() - begin - cost;
+            let passed = begun.elapsed().as_nanos() as f64 - 2.0 * cost;
             if repetition >= WARM_UP {
-                times.push(time);
+                runs.push(Run { thread, passed });
             }
         }
     }
-    times.into_iter().map(Times::of).collect()
+    runs.into_iter().map(Times::of).collect()
 }
 
 /// What our time of a workload may be at most, as a multiple of another's; judged where that other is timed.
@@ -467,7 +490,7 @@ fn weight_layout(words: [u32; 5]) -> (WeightLayout, Sizes) {
 
 fn pack_weights(name: &str, words: [u32; 5]) -> Row {
     let (layout, sizes) = weight_layout(words);
-    packing(name, 201, sizes).measure(
+    packing(name, 1001, sizes).measure(
         |library, elements, buffer, _| (library.weights_pack)(&words, elements, buffer),
         |elements, buffer, _| loops::pack_weights(black_box(&layout), elements, buffer),
     )
@@ -475,7 +498,7 @@ fn pack_weights(name: &str, words: [u32; 5]) -> Row {
 
 fn unpack_weights(name: &str, words: [u32; 5]) -> Row {
     let (layout, sizes) = weight_layout(words);
-    unpacking(name, 201, sizes).measure(
+    unpacking(name, 1001, sizes).measure(
         |library, buffer, elements, _| (library.weights_unpack)(&words, buffer, elements),
         |buffer, elements, _| loops::unpack_weights(black_box(&layout), buffer, elements),
     )
