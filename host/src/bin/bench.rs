@@ -626,7 +626,8 @@ fn print_table(title: &str, rows: &[Row], number: usize) {
 
 const EXPLAINED: &str = "\
 One thread, timed by its own running time; release builds; every result was compared with the Rust loop's before timing.
-Figures are the best repetition, in brackets the median. A bar is met where both ratios meet it. Of lookups in runs of 1 and 64 samples a cell is a run.
+Figures are the best repetition, in brackets the median. A bar is met where both ratios meet it. Interrupted runs do not count, unless
+they are more than half. Of lookups in runs of 1 and 64 samples a cell is a run.
 
 Lookup settings: slopes (scale, shift) X below (3, 1), X above (-5, 0), Y below (7, -2), Y above (2, 4);
 Priority X, OverflowPriority X, UnderflowPriority Y; table entries drawn from all 16-bit numbers.
@@ -668,6 +669,9 @@ fn main() {
     for (name, ..) in BARS {
         let found = rows.iter().any(|row| row.name == *name);
         assert!(found, "no workload {name}");
+    }
+    if cfg!(against) {
+        println!("New is the library as built, old the archive given; in both, functions begin at multiples of 64 bytes.\n");
     }
     println!("{EXPLAINED}");
     for row in rows.iter().filter(|row| row.kinds != [0; 5]) {
