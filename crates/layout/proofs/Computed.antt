@@ -39,7 +39,7 @@ answer q = answerCode (inOrder (layoutChecks q))
 pub record Computed : Type 0 where
   pub position : elementPosition frame 33 1 2 ≡ 449
   pub extent : cubeExtent frame ≡ 480
-  pub raw : rawIndex frame 1 1 2 ≡ 11
+  pub raw : rawIndex frame 1 0 2 ≡ 8
   pub one-surface : surfaces (layoutOf 1 1 16 1 32 32 0) ≡ 1
   pub two-surfaces : surfaces (layoutOf 1 1 17 1 32 32 0) ≡ 2
   -- whose: an element's byte; padding past channel 40; the gap behind a line's last atom; behind the last atom

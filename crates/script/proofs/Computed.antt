@@ -54,6 +54,10 @@ unplaced = cellWord ++ 9 ∷ 53 ∷ 9 ∷ 48 ∷ 9 ∷ 48 ∷ 9 ∷ 48 ∷ 10 �
 abbrev outside : List ℕ
 outside = cellWord ++ 9 ∷ 48 ∷ 9 ∷ 48 ∷ 9 ∷ 48 ∷ 9 ∷ 50 ∷ 10 ∷ []
 
+-- stall 1 2 1 1 1, and its cell 1 33 0 0: element (33, 1, 2) of the frame
+abbrev second : List ℕ
+second = stallWord ++ 9 ∷ 49 ∷ 9 ∷ 50 ∷ 9 ∷ 49 ∷ 9 ∷ 49 ∷ 9 ∷ 49 ∷ 10 ∷ cellWord ++ 9 ∷ 49 ∷ 9 ∷ 51 ∷ 51 ∷ 9 ∷ 48 ∷ 9 ∷ 48 ∷ 10 ∷ []
+
 pub record Computed : Type 0 where
   pub session : printed (frame ++ stall ++ overlapping ++ cell) ≡ (1 ∷ 0 ∷ 480 ∷ []) ∷ (2 ∷ 0 ∷ 160 ∷ []) ∷ (3 ∷ 10 ∷ 0 ∷ []) ∷ (4 ∷ 0 ∷ 417 ∷ []) ∷ []
   -- a last newline adds no line
@@ -66,9 +70,11 @@ pub record Computed : Type 0 where
   -- fed in two parts, cut within the second line; the last line lacks its newline
   pub parts : lines (rowsOfParts startSheet ((frame ++ 115 ∷ 116 ∷ 97 ∷ []) ∷ (108 ∷ 108 ∷ 9 ∷ 48 ∷ 9 ∷ 48 ∷ 9 ∷ 48 ∷ 9 ∷ 50 ∷ 9 ∷ 50 ∷ 10 ∷ cell) ∷ []))
       ≡ (1 ∷ 0 ∷ 480 ∷ []) ∷ (2 ∷ 0 ∷ 160 ∷ []) ∷ (3 ∷ 0 ∷ 417 ∷ []) ∷ []
+  -- a cell is counted from its stall's corner: 449, the paper's own
+  pub corner : printed (frame ++ second) ≡ (1 ∷ 0 ∷ 480 ∷ []) ∷ (2 ∷ 0 ∷ 40 ∷ []) ∷ (3 ∷ 0 ∷ 449 ∷ []) ∷ []
   -- no input, no rows
   pub none : printed [] ≡ []
 
 pub computed : Computed
 unfolding requireAt inOrder leaves elementBytes surfaces elementPosition cubeExtent spanInside spanHas sizeTaken sizesTaken wholeAtoms stridesTaken layoutChecks slotOf slotsOf rectangleHas taken anyFrom overlaps rectangleInside slotAt isFilled rectangleOf placeChecks boxInRectangle areaChecks placeAnswer placeTable before split fieldsOf withoutEmptyLast linesOf isDigit allDigits digitsAfter isEmpty wellBegun numberOf andNumber numbersOf sameText shaped byWord byFields recordOf framedOr recordAnswer recordValue recordDone valueAfter deskAfter nextLine rowOf rowsAfter sheet startSheet deskOf longer kept withByte lineRecord lineEnded lineRow fedFrom fed finished andThen partRows rowsOfParts
-computed = record { session = refl; ended = refl; refused = refl; emptied = refl; parts = refl; none = refl }
+computed = record { session = refl; ended = refl; refused = refl; emptied = refl; parts = refl; corner = refl; none = refl }
