@@ -1,9 +1,10 @@
 -- Which elements a precision takes (scope paper, "Refusal numbers", 7). Assumes nothing.
-use Prim.Native.Nat.{ℕ, zero, suc}
+use Prim.Native.Nat.{ℕ, zero, suc, _<_}
 use mathlib.Core.Bool.{Bool, true, _&&_}
 use mathlib.Core.List.{List, [], _∷_}
 use lib.IntN.{ℤ, pos, negsuc}
-use lib.Signed.{leZ}
+use lib.ListN.{getD}
+use lib.Signed.{mag, leZ}
 use Rattle.refusal.specs.declared.Refusal.the-variants.{Int8Range}
 use Rattle.refusal.specs.declared.Answer.{Answer}
 use Rattle.refusal.specs.Checks.{requireAt}
@@ -25,3 +26,7 @@ valueChecksFrom p i (z ∷ zs) = valueCheck p i z ∷ valueChecksFrom p (suc i) 
 -- the checks of all elements in order: the first refusal has the least index at fault
 unfoldable pub valueChecks : ℕ → List ℤ → List Answer
 valueChecks p zs = valueChecksFrom p zero zs
+
+-- every element is a 16-bit number, as it is in every slice of i16
+pub record SixteenBit (zs : List ℤ) : Type 0 where
+  pub each : (i : ℕ) → mag (getD zs i (pos 0)) < 32768

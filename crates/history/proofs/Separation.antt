@@ -26,7 +26,7 @@ use Rattle.refusal.proofs.TestLaws.{and-left, and-right}
 use Rattle.layout.proofs.Taken.{Taken}
 use Rattle.layout.proofs.BoxLaws.{Span, InBox, InCube, in-cube, span-inside}
 use Rattle.layout.proofs.ContentLaws.{edited-kept, edited-length}
-use Rattle.layout.proofs.Places.{element-own}
+use Rattle.layout.proofs.Formulas.{element-own}
 use Rattle.regions.specs.declared.RegionTable.{RegionTable}
 use Rattle.regions.specs.Slots.{Rectangle, Slot, empty, filled, slotOf, slotsOf, emptySlots, rectangleInside}
 use Rattle.regions.specs.Rules.{slotAt, isFilled, rectangleOf, rectangleAt, boxInRectangle, cubeBox, placeChecks, editChecks, readChecks}

@@ -21,6 +21,7 @@ use Rattle.layout.specs.Geometry.{elementCount, rawIndex}
 use Rattle.layout.specs.Boxes.{wholeBox, boxCount, spanInside, boxInside, spanHas, boxHas, boxIndex, channelAt, rowAt, columnAt}
 use Rattle.refusal.proofs.TestLaws.{and-left, and-right, and-both}
 use Rattle.layout.proofs.Taken.{Taken}
+pub use Rattle.layout.specs.Places.{InBox, InCube}
 
 -- `count` numbers from `first` on, at least one, all below `size`
 pub record Span (first count size : ℕ) : Type 0 where
@@ -75,15 +76,6 @@ whole-taken q ok =
 pub whole-inside : (q : CubeLayout) → Taken q → boxInside q (wholeBox q) ≡ true
 whole-inside q ok = taken-box q (wholeBox q) (whole-taken q ok)
 
--- element (c, h, w) is in the box
-pub record InBox (b : ElementBox) (c h w : ℕ) : Type 0 where
-  pub channel-ge : b .channel ≤ c
-  pub channel-lt : c < b .channel + b .channels
-  pub row-ge : b .row ≤ h
-  pub row-lt : h < b .row + b .rows
-  pub column-ge : b .column ≤ w
-  pub column-lt : w < b .column + b .columns
-
 has-ge : (first count x : ℕ) → spanHas first count x ≡ true → first ≤ x
 unfolding spanHas
 has-ge first count x e = leb-true first x (and-left (leb first x) (ltb x (first + count)) e)
@@ -123,11 +115,6 @@ in-boxHas b c h w i =
     (has (b .column) (b .columns) w (i .column-ge) (i .column-lt))
 
 -- an element of an accepted box is in the cube
-pub record InCube (q : CubeLayout) (c h w : ℕ) : Type 0 where
-  pub channel-lt : c < q .channels
-  pub row-lt : h < q .height
-  pub column-lt : w < q .width
-
 pub in-cube : (q : CubeLayout) (b : ElementBox) (c h w : ℕ) → BoxTaken q b → InBox b c h w → InCube q c h w
 in-cube q b c h w t i =
     record {

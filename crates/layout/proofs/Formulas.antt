@@ -1,6 +1,6 @@
 -- The converse of the paper's formula: a byte lies in an atom, and is padding, exactly where the formula puts it; packing by that formula.
 -- By cases on the byte's owner. Assumes nothing.
---     AtomByte, PaddingByte                 a byte's place in the paper's formula
+--     element-own                           a byte is one element's
 --     atom-exactly, padding-exactly         the owner is such a byte's exactly there
 --     packing-writes, packing-zeroes, packing-keeps     a byte after packing
 use Prim.Native.Nat.{ℕ, suc, _+_, _*_, _/_, _%_, _≤_, _<_}
@@ -22,25 +22,18 @@ use Rattle.layout.proofs.Views.{View, is-element, is-padding, is-outsid
 use Rattle.layout.proofs.BoxLaws.{InCube}
 use Rattle.layout.proofs.ContentLaws.{packed-element, packed-padding, packed-outside}
 use Rattle.layout.proofs.Extents.{element-within, atom-within}
-
--- byte p is byte k of the atom at surface s, row h, column w, for some of the cube's
-pub record AtomByte (q : CubeLayout) (p : ℕ) : Type 0 where
-  pub s : ℕ
-  pub h : ℕ
-  pub w : ℕ
-  pub k : ℕ
-  pub surface-lt : s < surfaces q
-  pub row-lt : h < q .height
-  pub column-lt : w < q .width
-  pub byte-lt : k < 32
-  pub place : p ≡ q .start + s * q .surface + h * q .line + 32 * w + k
-
--- and it is past the last channel
-pub record PaddingByte (q : CubeLayout) (p : ℕ) : Type 0 where
-  pub atom : AtomByte q p
-  pub past : q .channels * sizeOf q ≤ 32 * atom .s + atom .k
+pub use Rattle.layout.specs.Places.{AtomByte, PaddingByte}
 
 module _ (q : CubeLayout) (ok : Taken q) where
+  -- a byte is one element's, and one byte of it
+  pub element-own : (c h w b c′ h′ w′ b′ : ℕ) → InCube q c h w → InCube q c′ h′ w′ → b < sizeOf q → b′ < sizeOf q
+      → elementPosition q c h w + b ≡ elementPosition q c′ h′ w′ + b′ → (c ≡ c′) × (h ≡ h′) × (w ≡ w′) × (b ≡ b′)
+  element-own c h w b c′ h′ w′ b′ i i′ hb hb′ e =
+      let o = element-owner q ok c h w b (i .channel-lt) (i .row-lt) (i .column-lt) hb in
+      let o′ = element-owner q ok c′ h′ w′ b′ (i′ .channel-lt) (i′ .row-lt) (i′ .column-lt) hb′ in
+      let same : element c h w b ≡ element c′ h′ w′ b′ = sym o ∙ ap (owner q) e ∙ o′ in
+      ((cc), (cc), (cc), (cc))
+
   -- ---- the converse: a byte lies in an atom, or is padding, exactly where the formula says
 
   pub atom-exactly : (p : ℕ) → (owner q p ≡ outside → ⊥) ↔ AtomByte q p

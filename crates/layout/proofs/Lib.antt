@@ -10,7 +10,8 @@
 --     CallLaws        the orders of checks: a call on the whole cube, and what an accepted call tells
 --     Formulas        the paper's formula and its converse; packing by it
 --     RoundTrip       what is packed is read back
---     Places          the statements about places, padding and the round trip
+--     PackLaws        what an accepted packing, or writing of a box, comes to
+--     Claims          the claims about packed cubes, of the calls
 pub mod Computed
 pub mod Taken
 pub mod RuleLaws
@@ -22,4 +23,5 @@ pub mod Extents
 pub mod CallLaws
 pub mod Formulas
 pub mod RoundTrip
-pub mod Places
+pub mod PackLaws
+pub mod Claims
