@@ -40,6 +40,13 @@ pub fn high_byte(x: i16) -> u8
     (bits(x) / 256 % 256) as u8
 }
 
+// Both bytes of an element as one number, the low byte first.
+pub fn word(x: i16) -> u16
+    ensures { λ r. ⌜ r ≡ byteOf x 0 + 256 * byteOf x 1 ⌝ }
+{
+    (bits(x) % 65536) as u16
+}
+
 // The difference of two numbers, where it fits 16 bits.
 fn less(n: u32, m: u32) -> i16
     requires { ⌜ (n < m + 32768) × (m ≤ 32768) ⌝ }
