@@ -3,6 +3,7 @@
 --     Fits-rows, Fits-columns          where the rows and the columns end
 --     fitting-same, fitting-false      the test by another
 --     block-written, block-read        a block that fits is columns
+--     block-written-length             the buffer keeps its length
 --     block-kept, block-unread         one that does not writes, reads nothing
 use Prim.Native.Nat.{ℕ, zero, suc, _+_, _-_, _*_, _≤_, _<_}
 use native.Mathlib.Omega.{arith}
@@ -18,6 +19,7 @@ use borrow.Author.Tests.{leb-true, le-leb}
 use Rattle.elements.proofs.ValueLaws.{and-true}
 use Rattle.columns.specs.declared.ColumnBlock.{ColumnBlock}
 use Rattle.columns.specs.Columns.{listed, rowsWritten, rowsRead}
+use Rattle.columns.proofs.StripLaws.{written-length}
 use Rattle.columns.specs.Blocks.{fitting, blockFits, blockWritten, blockRead}
 
 pub both-true : {a b : Bool} → a ≡ true → b ≡ true → a && b ≡ true
@@ -102,6 +104,14 @@ module _ (b : ColumnBlock) where
   pub block-kept : (xs : List ℤ) (before : List ℕ) → blockFits b (length xs) (length before) ≡ false → blockWritten b xs before ≡ before
   unfolding blockWritten
   block-kept xs before e = rw e
+
+  pub block-written-length : (xs : List ℤ) (before : List ℕ) → length (blockWritten b xs before) ≡ length before
+  unfolding blockWritten
+  block-written-length xs before = go (blockFits b (length xs) (length before))
+    where
+      go : (t : Bool) → length (cond t (rowsWritten (b .size) (listed xs) (b .from) (b .plane) (b .rows) (b .count) (b .at) (b .stride) before) before) ≡ length before
+      go true = written-length (b .size) (listed xs) (b .from) (b .plane) (b .rows) (b .at) (b .stride) (b .count) before
+      go false = refl
 
   pub block-read : (buf : List ℕ) (before : List ℤ) → BlockFits b (length before) (length buf) → b .count ≤ b .plane
       → blockRead b buf before ≡ rowsRead (b .size) buf (b .at) (b .stride) (b .rows) (b .count) (b .from) (b .plane) before

@@ -1,22 +1,19 @@
 -- Bytes cleared (specs/Blocks.antt), byte by byte, and one more. Assumes nothing.
---     cleared-in, cleared-out     a byte that is cleared, one that is not
+--     cleared-in, cleared-out     a byte that is cleared, one that is not; where-is says which
 --     cleared-length              the buffer keeps its length
 --     cleared-none, cleared-more  no byte; one more
 --     cleared-all                 as far as the bytes are there
---     cleared-toward              clearing as a step toward a goal list whose bytes are 0 there
 use Prim.Native.Nat.{ℕ, suc, _+_, _-_, _≤_, _<_}
 use native.Mathlib.Omega.{arith}
 use native.Mathlib.Decide.{decLt, ℕ-discrete}
 use mathlib.Core.Path.{_≡_, refl, sym, ap, subst, _∙_}
 use mathlib.Core.Logic.{_⊎_, inl, inr, ⊎-elim}
 use mathlib.Core.List.{List}
-use lib.ListN.{length, getD, set, length-set}
+use lib.ListN.{length, getD, set, length-set, List·getD-eq-default}
 use lib.Seq.{getD-set-same, getD-set-other, ext-getD}
 use borrow.Author.Tests.{lt-ltb, le-ltb, le-leb, lt-leb}
 use Rattle.elements.proofs.ListLaws.{length-remade, getD-remade}
-use Rattle.elements.proofs.Toward.{Toward}
 use Rattle.columns.specs.Blocks.{cleared}
-use Rattle.columns.proofs.TowardLaws.{getD-out}
 
 pub cleared-length : (at n : ℕ) (l : List ℕ) → length (cleared at n l) ≡ length l
 unfolding cleared
@@ -26,13 +23,19 @@ pub cleared-in : (at n : ℕ) (l : List ℕ) (p : ℕ) → p < length l → at �
 unfolding cleared
 cleared-in at n l p lt low high = getD-remade _ l p 0 lt ∙ rw (le-leb at p low, lt-ltb p (at + n) high)
 
-pub cleared-out : (at n : ℕ) (l : List ℕ) (p : ℕ) → p < length l → (p < at) ⊎ (at + n ≤ p) → getD (cleared at n l) p 0 ≡ getD l p 0
+kept : (at n : ℕ) (l : List ℕ) (p : ℕ) → p < length l → (p < at) ⊎ (at + n ≤ p) → getD (cleared at n l) p 0 ≡ getD l p 0
 unfolding cleared
-cleared-out at n l p lt (inl h) = getD-remade _ l p 0 lt ∙ rw (lt-leb at p h)
-cleared-out at n l p lt (inr h) = getD-remade _ l p 0 lt ∙ rw (le-leb at p (omega arith), le-ltb p (at + n) h)
+kept at n l p lt (inl h) = getD-remade _ l p 0 lt ∙ rw (lt-leb at p h)
+kept at n l p lt (inr h) = getD-remade _ l p 0 lt ∙ rw (le-leb at p (omega arith), le-ltb p (at + n) h)
+
+pub cleared-out : (at n : ℕ) (l : List ℕ) (p : ℕ) → (p < at) ⊎ (at + n ≤ p) → getD (cleared at n l) p 0 ≡ getD l p 0
+cleared-out at n l p o = elim (decLt p (length l)) [
+  | yes lt ↦ kept at n l p lt o
+  | no f ↦ List·getD-eq-default (cleared at n l) 0 (omega (arith, cleared-length at n l)) ∙ sym (List·getD-eq-default l 0 (omega arith))
+]
 
 -- where byte p lies
-where-is : (at n p : ℕ) → ((at ≤ p) × (p < at + n)) ⊎ ((p < at) ⊎ (at + n ≤ p))
+pub where-is : (at n p : ℕ) → ((at ≤ p) × (p < at + n)) ⊎ ((p < at) ⊎ (at + n ≤ p))
 where-is at n p = elim (decLt p at) [ yes h ↦ inr (inl h) | no f ↦ elim (decLt p (at + n)) [ yes h ↦ inl (omega arith, h) | no g ↦ inr (inr (omega arith)) ] ]
 
 -- a list with those bytes is the buffer cleared
@@ -44,7 +47,7 @@ cleared-unique at n l after long hit miss =
     (λ p h. let lt : p < length l = subst (λ (m : ℕ). p < m) long h in
     ⊎-elim
     (λ i. hit p lt (i .0) (i .1) ∙ sym (cleared-in at n l p lt (i .0) (i .1)))
-    (λ o. miss p lt o ∙ sym (cleared-out at n l p lt o))
+    (λ o. miss p lt o ∙ sym (cleared-out at n l p o))
     (where-is at n p))
 
 pub cleared-none : (at n : ℕ) (l : List ℕ) → n ≡ 0 → l ≡ cleared at n l
@@ -64,7 +67,7 @@ cleared-more at n p m l {buf} e hp room hm =
       | no f ↦ getD-set-other (cleared at n l) p q 0 0 f ∙ cleared-in at n l q lt low (below q high f)
     ])
     (λ q lt o. getD-set-other (cleared at n l) p q 0 0 (λ s. ⊎-elim (λ h. omega arith) (λ h. omega arith) o)
-    ∙ cleared-out at n l q lt (⊎-elim (λ h. inl h) (λ h. inr (omega arith)) o))
+    ∙ cleared-out at n l q (⊎-elim (λ h. inl h) (λ h. inr (omega arith)) o))
   where
     below : (q : ℕ) → q < at + m → (q ≡ p → ⊥) → q < at + n
     below q high f = elim (decLt q (at + n)) [ yes h ↦ h | no g ↦ absurd (f (omega arith)) ]
@@ -74,17 +77,4 @@ pub cleared-all : (at n m : ℕ) (l : List ℕ) → n ≤ m → length l ≤ at 
 cleared-all at n m l h end =
     cleared-unique at m l (cleared at n l) (cleared-length at n l)
     (λ p lt low high. cleared-in at n l p lt low (omega arith))
-    (λ p lt o. cleared-out at n l p lt (⊎-elim (λ k. inl k) (λ k. inr (omega arith)) o))
-
-pub cleared-toward : (goal : List ℕ) (at n : ℕ) (l : List ℕ) → ((p : ℕ) → at ≤ p → p < at + n → getD goal p 0 ≡ 0) → Toward 0 goal l (cleared at n l)
-cleared-toward goal at n l same =
-    record {
-      long = cleared-length at n l;
-      each = λ p. elim (decLt p (length l)) [
-        | yes lt ↦ ⊎-elim
-            (λ i. inr (cleared-in at n l p lt (i .0) (i .1) ∙ sym (same p (i .0) (i .1))))
-            (λ o. inl (cleared-out at n l p lt o))
-            (where-is at n p)
-        | no f ↦ inl (getD-out (cleared at n l) p 0 (omega (arith, cleared-length at n l)) ∙ sym (getD-out l p 0 (omega arith)))
-      ];
-    }
+    (λ p lt o. cleared-out at n l p (⊎-elim (λ k. inl k) (λ k. inr (omega arith)) o))

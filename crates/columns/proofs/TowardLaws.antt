@@ -2,14 +2,14 @@
 --     columns-toward, columns-reached                columns of the goal's entries are such a step, and reach them
 --     block-written-toward, block-written-reached    so is a block of elements whose bytes are the goal's
 --     block-read-toward, block-read-reached          and one that reads the goal's elements
-use Prim.Native.Nat.{ℕ, zero, suc, _+_, _*_, _/_, _%_, _≤_, _<_}
+use Prim.Native.Nat.{ℕ, _+_, _*_, _/_, _%_, _≤_, _<_}
 use native.Mathlib.Omega.{arith}
-use native.Mathlib.Nat.{div-add-mod', mod-lt, div-lt-iff-lt-mul, le-of-suc-le-suc, not-suc-le-zero, mul-comm, mul-suc, mul-le-mul-left}
+use native.Mathlib.Nat.{div-add-mod', mod-lt, div-lt-iff-lt-mul, mul-comm}
 use native.Mathlib.Decide.{decLt}
 use mathlib.Core.Path.{_≡_, refl, sym, ap, subst, _∙_}
 use mathlib.Core.Logic.{inl, inr, ⊎-elim}
-use mathlib.Core.List.{List, [], _∷_}
-use lib.ListN.{length, getD}
+use mathlib.Core.List.{List}
+use lib.ListN.{length, getD, List·getD-eq-default}
 use Rattle.elements.proofs.Toward.{Toward}
 use lib.Arith.{digits-div, digits-mod, digits-lt}
 use lib.IntN.{ℤ, pos}
@@ -20,11 +20,6 @@ use Rattle.columns.specs.Blocks.{blockWritten, blockRead}
 use Rattle.columns.proofs.BlockLaws.{BlockFits, columns-end, rows-end, block-written, block-read}
 use Rattle.columns.proofs.UnitLaws.{column-room}
 use Rattle.columns.proofs.ColumnLaws.{place, columns-length, columns-hit, columns-miss}
-
-pub getD-out : {A : Type 0} (l : List A) (p : ℕ) (d : A) → length l ≤ p → getD l p d ≡ d
-getD-out [] p d h = refl
-getD-out (x ∷ l) zero d h = absurd (not-suc-le-zero h)
-getD-out (x ∷ l) (suc p) d h = getD-out l p d (le-of-suc-le-suc h)
 
 module _ {A : Type 0} (d : A) (goal : List A) (entry : ℕ → ℕ → A) (k n at stride : ℕ) (fit : k ≤ stride) (l : List A)
     (same : (i b : ℕ) → i < n → b < k → entry i b ≡ getD goal (at + stride * i + b) d) where
@@ -43,7 +38,7 @@ module _ {A : Type 0} (d : A) (goal : List A) (entry : ℕ → ℕ → A) (k n a
               (columns-reached (w .i) (w .b) (w .i-lt) (w .b-lt) (subst (λ (x : ℕ). x < length l) (w .is) lt))))
               (λ o. inl (columns-miss d entry k n at stride fit l p lt o))
               (place k n at stride fit p)
-          | no f ↦ inl (getD-out (columns entry k n at stride l) p d (omega (arith, long)) ∙ sym (getD-out l p d (omega arith)))
+          | no f ↦ inl (List·getD-eq-default (columns entry k n at stride l) d (omega (arith, long)) ∙ sym (List·getD-eq-default l d (omega arith)))
         ];
       }
 

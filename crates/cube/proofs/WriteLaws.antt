@@ -1,246 +1,224 @@
--- Writing run by run leaves the box written. Every store puts a byte of the edited buffer at its place, so the buffer comes toward the edited
--- one, and each byte of an element of the box is reached in its run. Assumes nothing.
---     stored-one, stored-two                an element of one byte, of two
---     rowStored-length .. rowsStored-length
---     rows-stored                           all rows stored are the box written
-use Prim.Native.Nat.{ℕ, zero, suc, _+_, _-_, _*_, _≤_, _<_}
+-- A row of a box written, its atoms cleared before or not, comes toward what the buffer is to become, and reaches it in its channels; where the
+-- atoms are cleared, they hold the last channels and the padding alone. Assumes nothing.
+--     RowDone, row-done     one row written comes toward the goal, and reaches it in each of its channels
+use Prim.Native.Nat.{ℕ, suc, _+_, _-_, _*_, _/_, _%_, _≤_, _<_}
 use native.Mathlib.Omega.{arith}
-use native.Mathlib.Numerals.{add-one}
-use native.Mathlib.Nat.{add-zero, eq-or-lt-of-le, le-of-suc-le-suc, not-suc-le-zero}
-use mathlib.Core.Path.{_≡_, refl, sym, ap, _∙_, subst}
-use mathlib.Core.Logic.{⊎-elim}
+use native.Mathlib.Decide.{decLt}
+use native.Mathlib.Nat.{add-mul, div-add-mod', mod-lt, mul-le-mul-right}
+use mathlib.Core.Path.{_≡_, refl, sym, ap, subst, _∙_}
+use mathlib.Core.Bool.{Bool, true, false, cond, _&&_}
+use mathlib.Core.Logic.{_⊎_, inl, inr, ⊎-elim}
 use mathlib.Core.List.{List}
-use lib.ListN.{length, getD, set, length-set}
+use lib.Dec.{eqb}
+use lib.ListN.{length, getD}
 use lib.IntN.{ℤ, pos}
+use borrow.Author.Tests.{eqb-true, eq-eqb}
 use Rattle.elements.specs.Bytes.{byteOf}
-use Rattle.elements.proofs.Toward.{Toward, toward-refl, toward-trans, toward-set, reached-set, reached-kept}
+use Rattle.elements.proofs.ByteLaws.{elementBytes-pos}
+use Rattle.elements.proofs.Toward.{Toward}
+use Rattle.elements.proofs.ValueLaws.{and-true}
+use Rattle.columns.specs.Blocks.{blockWritten, cleared}
+use Rattle.columns.proofs.BlockLaws.{BlockFits}
+use Rattle.columns.proofs.TowardLaws.{block-written-toward, block-written-reached}
+use Rattle.columns.proofs.ClearLaws.{cleared-length, cleared-in, cleared-out, where-is}
 use Rattle.layout.specs.declared.CubeLayout.{CubeLayout}
 use Rattle.layout.specs.declared.ElementBox.{ElementBox}
-use Rattle.layout.specs.Geometry.{sizeOf, elementPosition, cubeExtent}
-use Rattle.layout.specs.Contents.{edited}
+use Rattle.layout.specs.Geometry.{sizeOf, surfaces, elementPosition, atomPosition, cubeExtent}
+use Rattle.layout.specs.Boxes.{wholeBox, boxCount}
+use Rattle.layout.specs.Owners.{padding, owner}
 use Rattle.layout.proofs.Taken.{Taken}
-use Rattle.layout.proofs.BoxLaws.{BoxTaken, InBox}
-use Rattle.layout.proofs.ContentLaws.{edited-element, edited-reached}
-use Rattle.cube.specs.Steps.{stored, rowStored, runIndex, runPosition, runStored, channelsStored, rowsStored}
-use Rattle.cube.proofs.RunLaws.{run-in, run-index, run-position, run-cube, run-room}
+use Rattle.layout.proofs.BoxLaws.{BoxTaken}
+use Rattle.layout.proofs.Views.{element-surface}
+use Rattle.layout.proofs.Formulas.{AtomByte, PaddingByte, padding-exactly}
+use Rattle.layout.proofs.Extents.{atom-within}
+use Rattle.cube.specs.Steps.{runIndex, runPosition, AtomEnd, rowBlock, rowWritten}
+use Rattle.cube.proofs.RowLaws.{row-index, row-position, row-fits}
+use Rattle.cube.proofs.GoalLaws.{Goal, Reached}
 
-pub stored-one : (z : ℤ) (at : ℕ) (buf : List ℕ) → stored 1 z at buf ≡ set buf at (byteOf z 0)
-unfolding stored
-stored-one z at buf = ap (λ (n : ℕ). set buf n (byteOf z 0)) (add-zero at)
+module _ (q : CubeLayout) (ok : Taken q) (box : ElementBox) (area : BoxTaken q box) (pad : Bool) (xs : List ℤ) (count : length xs ≡ boxCount box) (before goal : List ℕ)
+    (room : q .start + cubeExtent q ≤ length before) (g : Goal q box pad xs before goal)
+    (n m r : ℕ) (end : AtomEnd (sizeOf q) (box .channel) (box .channels) n m) (hr : r < box .rows) where
+  hn : n < box .channels
+  hn = omega (arith, end .some, end .le)
 
-pub stored-two : (z : ℤ) (at : ℕ) (buf : List ℕ) → stored 2 z at buf ≡ set (set buf at (byteOf z 0)) (at + 1) (byteOf z 1)
-unfolding stored
-stored-two z at buf = ap (λ (n : ℕ). set (set buf n (byteOf z 0)) (at + 1) (byteOf z 1)) (add-zero at)
+  -- ---- the block alone
 
-pub stored-length : (e : ℕ) (z : ℤ) (at : ℕ) (buf : List ℕ) → length (stored e z at buf) ≡ length buf
-unfolding stored
-stored-length zero z at buf = refl
-stored-length (suc e) z at buf = length-set (stored e z at buf) (at + e) (byteOf z e) ∙ stored-length e z at buf
+  same : (k i j : ℕ) → k < m - n → i < box .columns → j < sizeOf q
+      → byteOf (getD xs (runIndex box n r + i + k * (box .rows * box .columns)) (pos 0)) j ≡ getD goal (runPosition q box n r + 32 * i + k * sizeOf q + j) 0
+  same k i j hk hi hj =
+      ap (λ (x : ℕ). byteOf (getD xs x (pos 0)) j) (row-index q box n m r end k i)
+      ∙ g .held (n + k) r i j (omega (arith, hk, end .le)) hr hi hj
+      ∙ ap (λ (x : ℕ). getD goal (x + j) 0) (sym (row-position q box n m r end k i hk))
 
-pub rowStored-length : (e : ℕ) (xs : List ℤ) (from at n : ℕ) (buf : List ℕ) → length (rowStored e xs from at n buf) ≡ length buf
-unfolding rowStored
-rowStored-length e xs from at zero buf = refl
-rowStored-length e xs from at (suc n) buf =
-    stored-length e (getD xs (from + n) (pos 0)) (at + 32 * n) (rowStored e xs from at n buf) ∙ rowStored-length e xs from at n buf
+  module _ (l : List ℕ) (long : length l ≡ length before) where
+    fits : BlockFits (rowBlock q box n m r) (length xs) (length l)
+    fits = row-fits q box n m r end ok area hr (length xs) (length l) count (subst (λ (x : ℕ). q .start + cubeExtent q ≤ x) (sym long) room)
 
-module _ (q : CubeLayout) (box : ElementBox) (xs : List ℤ) where
-  pub runStored-length : (n r : ℕ) (buf : List ℕ) → length (runStored q box xs n r buf) ≡ length buf
-  unfolding runStored
-  runStored-length n r buf = rowStored-length (sizeOf q) xs (runIndex box n r) (runPosition q box n r) (box .columns) buf
+    block-toward : Toward 0 goal l (blockWritten (rowBlock q box n m r) xs l)
+    block-toward = block-written-toward (rowBlock q box n m r) xs goal l fits same
 
-  pub channelsStored-length : (r n : ℕ) (buf : List ℕ) → length (channelsStored q box xs r n buf) ≡ length buf
-  unfolding channelsStored
-  channelsStored-length r zero buf = refl
-  channelsStored-length r (suc n) buf = runStored-length n r (channelsStored q box xs r n buf) ∙ channelsStored-length r n buf
+    block-reached : (k i j : ℕ) → k < m - n → i < box .columns → j < sizeOf q
+        → getD (blockWritten (rowBlock q box n m r) xs l) (runPosition q box n r + 32 * i + k * sizeOf q + j) 0 ≡ getD goal (runPosition q box n r + 32 * i + k * sizeOf q + j) 0
+    block-reached = block-written-reached (rowBlock q box n m r) xs goal l fits same
 
-  pub rowsStored-length : (n : ℕ) (buf : List ℕ) → length (rowsStored q box xs n buf) ≡ length buf
-  unfolding rowsStored
-  rowsStored-length zero buf = refl
-  rowsStored-length (suc n) buf = channelsStored-length n (box .channels) (rowsStored q box xs n buf) ∙ rowsStored-length n buf
+    channel-reached : (c : ℕ) → n ≤ c → c < m → (i b : ℕ) → i < box .columns → b < sizeOf q
+        → getD (blockWritten (rowBlock q box n m r) xs l) (runPosition q box c r + 32 * i + b) 0 ≡ getD goal (runPosition q box c r + 32 * i + b) 0
+    channel-reached c low high i b hi hb =
+        let k = c - n in
+        let hk : k < m - n = omega arith in
+        let at : runPosition q box n r + 32 * i + k * sizeOf q ≡ runPosition q box c r + 32 * i =
+        row-position q box n m r end k i hk ∙ ap (λ (x : ℕ). runPosition q box x r + 32 * i) (omega arith) in
+        subst (λ (p : ℕ). getD (blockWritten (rowBlock q box n m r) xs l) (p + b) 0 ≡ getD goal (p + b) 0) at (block-reached k i b hk hi hb)
 
--- ---- toward a goal
-module _ (goal : List ℕ) where
-  -- the goal holds the first e bytes of z from `at` on
-  Holds : ℕ → ℤ → ℕ → Type 0
-  Holds e z at = (b : ℕ) → b < e → byteOf z b ≡ getD goal (at + b) 0
+  -- ---- the last surface of the whole cube: its row's atoms begin with channel n
 
-  stored-toward : (e : ℕ) (z : ℤ) (at : ℕ) (buf : List ℕ) → Holds e z at → at + e ≤ length buf → Toward 0 goal buf (stored e z at buf)
-  unfolding stored Holds
-  stored-toward zero z at buf h room = toward-refl 0 goal buf
-  stored-toward (suc e) z at buf h room =
-      toward-trans 0 goal (stored-toward e z at buf (λ b hb. h b (omega arith)) (omega arith))
-      (toward-set 0 goal (stored e z at buf) (at + e) (byteOf z e) (subst (λ (n : ℕ). at + e < n) (sym (stored-length e z at buf)) (omega arith)) (h e (omega arith)))
+  module _ (t : pad ≡ true) (last : m ≡ box .channels) (aligned : n * sizeOf q % 32 ≡ 0) where
+    is-whole : box ≡ wholeBox q
+    is-whole = g .whole t
 
-  stored-reached : (e : ℕ) (z : ℤ) (at : ℕ) (buf : List ℕ) → Holds e z at → at + e ≤ length buf → (b : ℕ) → b < e → getD (stored e z at buf) (at + b) 0 ≡ getD goal (at + b) 0
-  unfolding stored Holds
-  stored-reached zero z at buf h room b hb = absurd (not-suc-le-zero hb)
-  stored-reached (suc e) z at buf h room b hb =
-      let bound : at + e < length (stored e z at buf) = subst (λ (n : ℕ). at + e < n) (sym (stored-length e z at buf)) (omega arith) in
-      let step = toward-set 0 goal (stored e z at buf) (at + e) (byteOf z e) bound (h e (omega arith)) in
-      ⊎-elim
-      (λ i. subst (λ (n : ℕ). getD (set (stored e z at buf) (at + e) (byteOf z e)) (at + n) 0 ≡ getD goal (at + n) 0) (sym i) (reached-set 0 goal (stored e z at buf) (at + e) (byteOf z e) bound (h e (omega arith))))
-      (λ lt. reached-kept 0 goal step (at + b) (stored-reached e z at buf (λ b hb. h b (omega arith)) (omega arith) b lt))
-      (eq-or-lt-of-le (le-of-suc-le-suc hb))
+    -- where the row's atoms begin
+    line-at : (c h : ℕ) → c * sizeOf q % 32 ≡ 0 → elementPosition q c h 0 ≡ atomPosition q (c * sizeOf q / 32) h 0 0
+    unfolding elementPosition atomPosition
+    line-at c h e = omega arith
 
-  module _ (e : ℕ) (xs : List ℤ) (from at : ℕ) (buf : List ℕ) where
-    -- the goal holds the first n elements of the row, and the buffer has room for them
-    RowHolds : ℕ → Type 0
-    RowHolds n = (i : ℕ) → i < n → (b : ℕ) → b < e → byteOf (getD xs (from + i) (pos 0)) b ≡ getD goal (at + 32 * i + b) 0
+    at-line : runPosition q box n r ≡ atomPosition q (n * sizeOf q / 32) r 0 0
+    unfolding runPosition
+    at-line =
+        let zn : 0 + n ≡ n = omega arith in
+        let zr : 0 + r ≡ r = omega arith in
+        ap (λ (b : ElementBox). elementPosition q (b .channel + n) (b .row + r) (b .column)) is-whole
+        ∙ ap (λ (x : ℕ). elementPosition q x (0 + r) 0) zn
+        ∙ ap (λ (x : ℕ). elementPosition q n x 0) zr
+        ∙ line-at n r aligned
 
-    RowRoom : ℕ → Type 0
-    RowRoom n = (i : ℕ) → i < n → at + 32 * i + e ≤ length buf
+    -- the channels from n on are those of the last surface
+    bytes : q .channels * sizeOf q ≡ n * sizeOf q + (m - n) * sizeOf q
+    bytes =
+        let all : q .channels ≡ n + (m - n) = omega (arith, last, end .some, ap (λ (b : ElementBox). b .channels) is-whole) in
+        ap (λ (x : ℕ). x * sizeOf q) all ∙ add-mul n (m - n) (sizeOf q)
 
-    last-room : (n : ℕ) → RowRoom (suc n) → at + 32 * n + e ≤ length (rowStored e xs from at n buf)
-    unfolding RowRoom
-    last-room n room = subst (λ (m : ℕ). at + 32 * n + e ≤ m) (sym (rowStored-length e xs from at n buf)) (room n (omega arith))
+    fill : (m - n) * sizeOf q ≤ 32
+    fill = omega (arith, end .one)
 
-    rowStored-toward : (n : ℕ) → RowHolds n → RowRoom n → Toward 0 goal buf (rowStored e xs from at n buf)
-    unfolding rowStored RowHolds RowRoom Holds
-    rowStored-toward zero h room = toward-refl 0 goal buf
-    rowStored-toward (suc n) h room =
-        toward-trans 0 goal (rowStored-toward n (λ i hi. h i (omega arith)) (λ i hi. room i (omega arith)))
-        (stored-toward e (getD xs (from + n) (pos 0)) (at + 32 * n) (rowStored e xs from at n buf) (h n (omega arith)) (last-room n room))
+    some-bytes : n * sizeOf q < q .channels * sizeOf q
+    some-bytes = omega (arith, bytes, mul-le-mul-right {m = 1} {n = m - n} (sizeOf q) (omega (arith, end .some)), elementBytes-pos (q .precision))
 
-    rowStored-reached : (n : ℕ) → RowHolds n → RowRoom n → (i b : ℕ) → i < n → b < e → getD (rowStored e xs from at n buf) (at + 32 * i + b) 0 ≡ getD goal (at + 32 * i + b) 0
-    unfolding rowStored RowHolds RowRoom Holds
-    rowStored-reached zero h room i b hi hb = absurd (not-suc-le-zero hi)
-    rowStored-reached (suc n) h room i b hi hb =
-        let before = rowStored e xs from at n buf in
-        let z = getD xs (from + n) (pos 0) in
-        let step = stored-toward e z (at + 32 * n) before (h n (omega arith)) (last-room n room) in
-        ⊎-elim
-        (λ s. subst (λ (m : ℕ). getD (stored e z (at + 32 * n) before) (at + 32 * m + b) 0 ≡ getD goal (at + 32 * m + b) 0) (sym s) (stored-reached e z (at + 32 * n) before (h n (omega arith)) (last-room n room) b hb))
-        (λ lt. reached-kept 0 goal step (at + 32 * i + b) (rowStored-reached n (λ i hi. h i (omega arith)) (λ i hi. room i (omega arith)) i b lt hb))
-        (eq-or-lt-of-le (le-of-suc-le-suc hi))
+    surface-lt : n * sizeOf q / 32 < surfaces q
+    surface-lt = element-surface q ok n (omega (arith, hn, ap (λ (b : ElementBox). b .channels) is-whole))
 
--- ---- the box
-module _ (q : CubeLayout) (ok : Taken q) (box : ElementBox) (area : BoxTaken q box) (xs : List ℤ) (before : List ℕ) (room : q .start + cubeExtent q ≤ length before) where
-  goal : List ℕ
-  goal = edited q box xs before
+    row-lt : r < q .height
+    row-lt = omega (arith, hr, ap (λ (b : ElementBox). b .rows) is-whole)
 
-  -- what the goal holds of element i of a run
-  run-holds : (n r i b : ℕ) → n < box .channels → r < box .rows → i < box .columns → b < sizeOf q
-      → byteOf (getD xs (runIndex box n r + i) (pos 0)) b ≡ getD goal (runPosition q box n r + 32 * i + b) 0
-  unfolding goal
-  run-holds n r i b hn hr hi hb =
-      let cube = run-cube q ok box area n r i hn hr hi in
-      let bound : elementPosition q (box .channel + n) (box .row + r) (box .column + i) + b < length before = omega (arith, run-room q ok box area (length before) room n r i hn hr hi, run-position q box n r i) in
-      ap (λ (m : ℕ). byteOf (getD xs m (pos 0)) b) (sym (run-index box n r i hn hr hi))
-      ∙ sym (edited-element q box xs before ok (box .channel + n) (box .row + r) (box .column + i) b cube (run-in box n r i hn hr hi) hb bound)
-      ∙ ap (λ (m : ℕ). getD (edited q box xs before) (m + b) 0) (run-position q box n r i)
+    width : box .columns ≡ q .width
+    width = ap (λ (b : ElementBox). b .columns) is-whole
 
-  module _ (n r : ℕ) (hn : n < box .channels) (hr : r < box .rows) (buf : List ℕ) (long : length buf ≡ length before) where
-    row-room : RowRoom goal (sizeOf q) xs (runIndex box n r) (runPosition q box n r) buf (box .columns)
-    unfolding RowRoom
-    row-room i hi = subst (λ (m : ℕ). runPosition q box n r + 32 * i + sizeOf q ≤ m) (sym long) (run-room q ok box area (length before) room n r i hn hr hi)
+    -- byte i of the row's atoms is byte i % 32 of its atom i / 32
+    column-lt : (i : ℕ) → i < 32 * box .columns → i / 32 < q .width
+    column-lt i hi = omega (arith, width)
 
-    row-holds : RowHolds goal (sizeOf q) xs (runIndex box n r) (runPosition q box n r) buf (box .columns)
-    unfolding RowHolds
-    row-holds i hi b hb = run-holds n r i b hn hr hi hb
+    atom-place : (i : ℕ) → runPosition q box n r + i ≡ q .start + n * sizeOf q / 32 * q .surface + r * q .line + 32 * (i / 32) + i % 32
+    unfolding atomPosition
+    atom-place i = omega (arith, at-line)
 
-    run-toward : Toward 0 goal buf (runStored q box xs n r buf)
-    unfolding runStored
-    run-toward = rowStored-toward goal (sizeOf q) xs (runIndex box n r) (runPosition q box n r) buf (box .columns) row-holds row-room
+    abbrev atom-at : (i : ℕ) → i < 32 * box .columns → AtomByte q (runPosition q box n r + i)
+    atom-at i hi =
+        record {
+          s = n * sizeOf q / 32;
+          h = r;
+          w = i / 32;
+          k = i % 32;
+          surface-lt = surface-lt;
+          row-lt = row-lt;
+          column-lt = column-lt i hi;
+          byte-lt = mod-lt i (omega arith);
+          place = atom-place i;
+        }
 
-    run-reached : (i b : ℕ) → i < box .columns → b < sizeOf q → getD (runStored q box xs n r buf) (runPosition q box n r + 32 * i + b) 0 ≡ getD goal (runPosition q box n r + 32 * i + b) 0
-    unfolding runStored
-    run-reached i b hi hb = rowStored-reached goal (sizeOf q) xs (runIndex box n r) (runPosition q box n r) buf (box .columns) row-holds row-room i b hi hb
+    atom-room : (i : ℕ) → i < 32 * box .columns → runPosition q box n r + i < length before
+    unfolding atomPosition
+    atom-room i hi = omega (arith, atom-place i, room, atom-within q ok (n * sizeOf q / 32) r (i / 32) 32 surface-lt row-lt (column-lt i hi) (omega arith))
 
-  module _ (r : ℕ) (hr : r < box .rows) (buf : List ℕ) (long : length buf ≡ length before) where
-    channels-long : (n : ℕ) → length (channelsStored q box xs r n buf) ≡ length before
-    channels-long n = channelsStored-length q box xs r n buf ∙ long
+    module _ (l : List ℕ) (long : length l ≡ length before) where
+      after : List ℕ
+      after = blockWritten (rowBlock q box n m r) xs (cleared (runPosition q box n r) (32 * box .columns) l)
 
-    channels-toward : (n : ℕ) → n ≤ box .channels → Toward 0 goal buf (channelsStored q box xs r n buf)
-    unfolding channelsStored
-    channels-toward zero hn = toward-refl 0 goal buf
-    channels-toward (suc n) hn = toward-trans 0 goal (channels-toward n (omega arith)) (run-toward n r hn hr (channelsStored q box xs r n buf) (channels-long n))
+      long-cleared : length (cleared (runPosition q box n r) (32 * box .columns) l) ≡ length before
+      long-cleared = cleared-length (runPosition q box n r) (32 * box .columns) l ∙ long
 
-    channels-reached : (n : ℕ) → n ≤ box .channels → (m i b : ℕ) → m < n → i < box .columns → b < sizeOf q
-        → getD (channelsStored q box xs r n buf) (runPosition q box m r + 32 * i + b) 0 ≡ getD goal (runPosition q box m r + 32 * i + b) 0
-    unfolding channelsStored
-    channels-reached zero hn m i b hm hi hb = absurd (not-suc-le-zero hm)
-    channels-reached (suc n) hn m i b hm hi hb =
-        let done = channelsStored q box xs r n buf in
-        ⊎-elim
-        (λ s. subst (λ (k : ℕ). getD (runStored q box xs n r done) (runPosition q box k r + 32 * i + b) 0 ≡ getD goal (runPosition q box k r + 32 * i + b) 0) (sym s) (run-reached n r hn hr done (channels-long n) i b hi hb))
-        (λ lt. reached-kept 0 goal (run-toward n r hn hr done (channels-long n)) (runPosition q box m r + 32 * i + b) (channels-reached n (omega arith) m i b lt hi hb))
-        (eq-or-lt-of-le (le-of-suc-le-suc hm))
+      -- each byte of the row's atoms is a channel's, and written, or padding, and cleared
+      line-reached : (i : ℕ) → i < 32 * box .columns → getD after (runPosition q box n r + i) 0 ≡ getD goal (runPosition q box n r + i) 0
+      unfolding after
+      line-reached i hi =
+          let e = sizeOf q in
+          let x = i % 32 in
+          elim (decLt (x / e) (m - n)) [
+            | yes h ↦
+                let p : runPosition q box n r + 32 * (i / 32) + x / e * e + x % e ≡ runPosition q box n r + i = omega (arith, div-add-mod' x e) in
+                subst (λ (y : ℕ). getD (blockWritten (rowBlock q box n m r) xs (cleared (runPosition q box n r) (32 * box .columns) l)) y 0 ≡ getD goal y 0) p
+                (block-reached (cleared (runPosition q box n r) (32 * box .columns) l) long-cleared (x / e) (i / 32) (x % e) h (omega arith) (mod-lt x (elementBytes-pos (q .precision))))
+            | no f ↦
+                let past : q .channels * e ≤ 32 * (n * e / 32) + x = omega (arith, bytes, aligned, div-add-mod' x e, mul-le-mul-right {m = m - n} {n = x / e} e (omega arith)) in
+                let pd : PaddingByte q (runPosition q box n r + i) = record { atom = atom-at i hi; past = past } in
+                let none = g .zero t (runPosition q box n r + i) (atom-room i hi) (padding-exactly q ok (runPosition q box n r + i) .1 pd) in
+                ⊎-elim
+                (λ s. s ∙ cleared-in (runPosition q box n r) (32 * box .columns) l (runPosition q box n r + i) (omega (arith, atom-room i hi, long)) (omega arith) (omega arith) ∙ sym none)
+                (λ s. s)
+                (block-toward (cleared (runPosition q box n r) (32 * box .columns) l) long-cleared .each (runPosition q box n r + i))
+          ]
 
-  rows-long : (n : ℕ) → length (rowsStored q box xs n before) ≡ length before
-  rows-long n = rowsStored-length q box xs n before
+      cleared-toward : Toward 0 goal l after
+      unfolding after
+      cleared-toward =
+          let near = block-toward (cleared (runPosition q box n r) (32 * box .columns) l) long-cleared in
+          record {
+            long = near .long ∙ cleared-length (runPosition q box n r) (32 * box .columns) l;
+            each = λ p. ⊎-elim
+                (λ w.
+                let i = p - runPosition q box n r in
+                let is : runPosition q box n r + i ≡ p = omega (arith, w .0) in
+                inr (subst (λ (y : ℕ). getD (blockWritten (rowBlock q box n m r) xs (cleared (runPosition q box n r) (32 * box .columns) l)) y 0 ≡ getD goal y 0) is (line-reached i (omega (arith, w .0, w .1)))))
+                (λ o. ⊎-elim (λ s. inl (s ∙ cleared-out (runPosition q box n r) (32 * box .columns) l p o)) (λ s. inr s) (near .each p))
+                (where-is (runPosition q box n r) (32 * box .columns) p);
+          }
 
-  rows-toward : (n : ℕ) → n ≤ box .rows → Toward 0 goal before (rowsStored q box xs n before)
-  unfolding rowsStored
-  rows-toward zero hn = toward-refl 0 goal before
-  rows-toward (suc n) hn = toward-trans 0 goal (rows-toward n (omega arith)) (channels-toward n hn (rowsStored q box xs n before) (rows-long n) (box .channels) (omega arith))
+      -- padding lies in the last surface
+      pads-reached : (p : ℕ) (x : PaddingByte q p) → x .atom .h ≡ r → getD after p 0 ≡ getD goal p 0
+      unfolding surfaces atomPosition
+      pads-reached p x here =
+          let a = x .atom in
+          let s : a .s ≡ n * sizeOf q / 32 = omega (arith, a .surface-lt, a .byte-lt, x .past, bytes, fill, some-bytes, aligned) in
+          let i = 32 * a .w + a .k in
+          let is : runPosition q box n r + i ≡ p = omega (arith, at-line, a .place, ap (λ (y : ℕ). y * q .surface) s, ap (λ (y : ℕ). y * q .line) here) in
+          subst (λ (y : ℕ). getD after y 0 ≡ getD goal y 0) is (line-reached i (omega (arith, a .column-lt, a .byte-lt, width)))
 
-  rows-reached : (n : ℕ) → n ≤ box .rows → (m r i b : ℕ) → m < box .channels → r < n → i < box .columns → b < sizeOf q
-      → getD (rowsStored q box xs n before) (runPosition q box m r + 32 * i + b) 0 ≡ getD goal (runPosition q box m r + 32 * i + b) 0
-  unfolding rowsStored
-  rows-reached zero hn m r i b hm hr hi hb = absurd (not-suc-le-zero hr)
-  rows-reached (suc n) hn m r i b hm hr hi hb =
-      let done = rowsStored q box xs n before in
-      ⊎-elim
-      (λ s. subst (λ (k : ℕ). getD (channelsStored q box xs n (box .channels) done) (runPosition q box m k + 32 * i + b) 0 ≡ getD goal (runPosition q box m k + 32 * i + b) 0) (sym s) (channels-reached n hn done (rows-long n) (box .channels) (omega arith) m i b hm hi hb))
-      (λ lt. reached-kept 0 goal (channels-toward n hn done (rows-long n) (box .channels) (omega arith)) (runPosition q box m r + 32 * i + b) (rows-reached n (omega arith) m r i b hm lt hi hb))
-      (eq-or-lt-of-le (le-of-suc-le-suc hr))
+  -- ---- both
 
-  -- each element of the box is one of a run
-  there : (c h w b : ℕ) → InBox box c h w → b < sizeOf q → getD (rowsStored q box xs (box .rows) before) (elementPosition q c h w + b) 0 ≡ getD goal (elementPosition q c h w + b) 0
-  there c h w b i hb =
-      let n = c - box .channel in
-      let r = h - box .row in
-      let k = w - box .column in
-      let ec : box .channel + n ≡ c = omega (arith, i .channel-ge) in
-      let eh : box .row + r ≡ h = omega (arith, i .row-ge) in
-      let ew : box .column + k ≡ w = omega (arith, i .column-ge) in
-      let at : runPosition q box n r + 32 * k ≡ elementPosition q c h w =
-      sym (run-position q box n r k)
-      ∙ ap (λ (x : ℕ). elementPosition q x (box .row + r) (box .column + k)) ec
-      ∙ ap (λ (x : ℕ). elementPosition q c x (box .column + k)) eh
-      ∙ ap (λ (x : ℕ). elementPosition q c h x) ew in
-      subst (λ (p : ℕ). getD (rowsStored q box xs (box .rows) before) (p + b) 0 ≡ getD goal (p + b) 0) at
-      (rows-reached (box .rows) (omega arith) n r k b (omega (arith, i .channel-ge, i .channel-lt)) (omega (arith, i .row-ge, i .row-lt)) (omega (arith, i .column-ge, i .column-lt)) hb)
+  -- a list comes toward the goal, and reaches it in the row's channels
+  pub record RowDone (l after : List ℕ) : Type 0 where
+    pub near : Toward 0 goal l after
+    pub reached : (c : ℕ) → n ≤ c → c < m → Reached q box pad goal after c r
 
-  pub rows-stored : rowsStored q box xs (box .rows) before ≡ edited q box xs before
-  unfolding goal
-  rows-stored = edited-reached q box xs before ok (rowsStored q box xs (box .rows) before) (rows-toward (box .rows) (omega arith)) there
-
--- ---- one turn of a row's loop: its offset runs along by 32
-module _ (xs : List ℤ) (from at i p : ℕ) (buf before : List ℕ) (run : p ≡ at + 32 * i) where
-  pub row-step-one : buf ≡ rowStored 1 xs from at i before → {v : ℕ} → v ≡ byteOf (getD xs (from + i) (pos 0)) 0 → set buf p v ≡ rowStored 1 xs from at (i + 1) before
-  unfolding rowStored
-  row-step-one e {v} ev = rw (add-one i, run, e, ev) (sym (stored-one (getD xs (from + i) (pos 0)) (at + 32 * i) (rowStored 1 xs from at i before)))
-
-  pub row-step-two : buf ≡ rowStored 2 xs from at i before → {v u : ℕ} → v ≡ byteOf (getD xs (from + i) (pos 0)) 0 → u ≡ byteOf (getD xs (from + i) (pos 0)) 1
-      → set (set buf p v) (p + 1) u ≡ rowStored 2 xs from at (i + 1) before
-  unfolding rowStored
-  row-step-two e {v} {u} ev eu = rw (add-one i, run, e, ev, eu) (sym (stored-two (getD xs (from + i) (pos 0)) (at + 32 * i) (rowStored 2 xs from at i before)))
-
-pub row-start : (e : ℕ) (xs : List ℤ) (from at : ℕ) (buf : List ℕ) → buf ≡ rowStored e xs from at 0 buf
-unfolding rowStored
-row-start e xs from at buf = refl
-
--- a run is a row of the box's columns
-pub run-as-row : (q : CubeLayout) (box : ElementBox) (xs : List ℤ) (n r : ℕ) (buf : List ℕ) {e from at : ℕ} → sizeOf q ≡ e → from ≡ runIndex box n r → at ≡ runPosition q box n r
-    → rowStored e xs from at (box .columns) buf ≡ runStored q box xs n r buf
-unfolding runStored
-run-as-row q box xs n r buf es ef ea = rw (ef, ea, ← es)
-
--- ---- one turn of the channels' and of the rows' loop
-module _ (q : CubeLayout) (box : ElementBox) (xs : List ℤ) {buf after : List ℕ} (before : List ℕ) where
-  pub channels-step : (r n : ℕ) → buf ≡ channelsStored q box xs r n before → after ≡ runStored q box xs n r buf → after ≡ channelsStored q box xs r (n + 1) before
-  unfolding channelsStored
-  channels-step r n e f = rw (add-one n) (f ∙ ap (runStored q box xs n r) e)
-
-  pub rows-step : (n : ℕ) → buf ≡ rowsStored q box xs n before → after ≡ channelsStored q box xs n (box .channels) buf → after ≡ rowsStored q box xs (n + 1) before
-  unfolding rowsStored
-  rows-step n e f = rw (add-one n) (f ∙ ap (channelsStored q box xs n (box .channels)) e)
-
-pub channels-start : (q : CubeLayout) (box : ElementBox) (xs : List ℤ) (r : ℕ) (buf : List ℕ) → buf ≡ channelsStored q box xs r 0 buf
-unfolding channelsStored
-channels-start q box xs r buf = refl
-
-pub rows-start : (q : CubeLayout) (box : ElementBox) (xs : List ℤ) (buf : List ℕ) → buf ≡ rowsStored q box xs 0 buf
-unfolding rowsStored
-rows-start q box xs buf = refl
+  module _ (aligned : pad ≡ true → n * sizeOf q % 32 ≡ 0) (l : List ℕ) (long : length l ≡ length before) where
+    pub row-done : (clear : Bool) → clear ≡ pad && eqb m (box .channels) → RowDone l (rowWritten (rowBlock q box n m r) clear xs l)
+    unfolding rowWritten after
+    row-done false e =
+        record {
+          near = block-toward l long;
+          reached = λ c low high. record {
+            elements = channel-reached l long c low high;
+            pads = λ t last p x h. absurd (differ (e ∙ ap (λ (b : Bool). b && eqb m (box .channels)) t ∙ eq-eqb m (box .channels) (omega (arith, last, high, end .le))));
+          };
+        }
+      where
+        differ : false ≡ true → ⊥
+        differ z = let y : _≡_ {A = ℕ} 0 1 = cc in omega arith
+    row-done true e =
+        let b = and-true pad (eqb m (box .channels)) (sym e) in
+        let last = eqb-true m (box .channels) (b .1) in
+        record {
+          near = cleared-toward (b .0) last (aligned (b .0)) l long;
+          reached = λ c low high. record {
+            elements = channel-reached (cleared (runPosition q box n r) (32 * box .columns) l) (cleared-length (runPosition q box n r) (32 * box .columns) l ∙ long) c low high;
+            pads = λ t z p x h. pads-reached (b .0) last (aligned (b .0)) l long p x h;
+          };
+        }

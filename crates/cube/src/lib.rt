@@ -1,10 +1,6 @@
 // Feature cubes packed and read back, whole or a box at a time (scope paper, "Cells and cubes").
-mod band;
-mod fill;
 mod place;
 mod read;
-mod split;
-mod wipe;
 mod write;
 
 ghost use mathlib.Core.Path.{_≡_};
@@ -55,7 +51,8 @@ pub fn pack(layout: CubeLayout, elements: &[i16], buffer: &mut [u8]) -> Answer
     let Answer::Accepted = a else {
         return a;
     };
-    fill::rows(layout, area, elements, buffer);
+    let pad = layout.channels * elements::element_bytes(layout.precision) % 32 != 0;
+    write::all(layout, area, pad, elements, buffer);
     Answer::Accepted
 }
 
@@ -69,7 +66,7 @@ pub fn unpack(layout: CubeLayout, buffer: &[u8], elements: &mut [i16]) -> Answer
     let Answer::Accepted = a else {
         return a;
     };
-    read::rows(layout, area, buffer, elements);
+    read::all(layout, area, buffer, elements);
     Answer::Accepted
 }
 
@@ -87,7 +84,7 @@ pub fn write_box(
     let Answer::Accepted = a else {
         return a;
     };
-    write::rows(layout, area, elements, buffer);
+    write::all(layout, area, false, elements, buffer);
     Answer::Accepted
 }
 
@@ -100,7 +97,7 @@ pub fn read_box(layout: CubeLayout, area: ElementBox, buffer: &[u8], elements: &
     let Answer::Accepted = a else {
         return a;
     };
-    read::rows(layout, area, buffer, elements);
+    read::all(layout, area, buffer, elements);
     Answer::Accepted
 }
 

@@ -1,11 +1,12 @@
-// Where an element, and a run of a box, begins.
+// Where an element begins, and the channels of a box that lie in one atom, as columns.
 ghost use mathlib.Core.Path.{_≡_};
-ghost use Prim.Native.Nat.{_<_, _≤_};
+ghost use Prim.Native.Nat.{_+_, _<_, _≤_};
 ghost use Rattle.refusal.specs.declared.Answer.the-variants.{Accepted};
 ghost use Rattle.refusal.specs.Checks.{inOrder};
 ghost use Rattle.layout.specs.Geometry.{elementPosition};
 ghost use Rattle.layout.specs.Rules.{layoutChecks, boxChecks};
-ghost use Rattle.cube.specs.Steps.{runPosition, runIndex};
+ghost use Rattle.cube.specs.Steps.{runPosition, runIndex, AtomEnd, rowBlock};
+use columns::ColumnBlock;
 use layout::CubeLayout;
 use layout::ElementBox;
 
@@ -22,7 +23,7 @@ pub(crate) fn position_of(layout: CubeLayout, channel: u32, row: u32, column: u3
 }
 
 // Where channel n of the box's row r begins in the buffer.
-pub(crate) fn run_position(layout: CubeLayout, area: ElementBox, n: u32, r: u32) -> usize
+fn run_position(layout: CubeLayout, area: ElementBox, n: u32, r: u32) -> usize
     requires { ⌜ inOrder (boxChecks layout area) ≡ Accepted ⌝ }
     requires { ⌜ (n < area .channels) × (r < area .rows) ⌝ }
     ensures { λ p. ⌜ p ≡ runPosition layout area n r ⌝ }
@@ -33,10 +34,40 @@ pub(crate) fn run_position(layout: CubeLayout, area: ElementBox, n: u32, r: u32)
 }
 
 // Where channel n of the box's row r begins among the caller's elements.
-pub(crate) fn run_index(area: ElementBox, n: u32, r: u32) -> usize
+fn run_index(area: ElementBox, n: u32, r: u32) -> usize
     requires { ⌜ (area .channels ≤ 8192) × (area .rows ≤ 8192) × (area .columns ≤ 8192) ⌝ }
     requires { ⌜ (n < area .channels) × (r < area .rows) ⌝ }
     ensures { λ i. ⌜ i ≡ runIndex area n r ⌝ }
 {
     (n as usize * area.rows as usize + r as usize) * area.columns as usize
+}
+
+// The channel behind those that lie in one atom with channel n of a box: the first of the next atom, or the end.
+pub(crate) fn atom_end(e: u32, channel: u32, channels: u32, n: u32) -> u32
+    requires { ⌜ (1 ≤ e) × (e ≤ 2) × (n < channels) × (channel + channels ≤ 8192) ⌝ }
+    ensures { λ m. ⌜ AtomEnd e channel channels n m ⌝ }
+{
+    let per = 32 / e;
+    let next = n + per - (channel + n) % per;
+    if channels < next {
+        return channels;
+    }
+    next
+}
+
+// Channels n to m of the box's row r as columns, one in each atom.
+pub(crate) fn row(layout: CubeLayout, area: ElementBox, n: u32, m: u32, r: u32) -> ColumnBlock
+    requires { ⌜ inOrder (boxChecks layout area) ≡ Accepted ⌝ }
+    requires { ⌜ (n < m) × (m ≤ area .channels) × (r < area .rows) ⌝ }
+    ensures { λ b. ⌜ b ≡ rowBlock layout area n m r ⌝ }
+{
+    ColumnBlock {
+        size: elements::element_bytes(layout.precision),
+        rows: m - n,
+        count: area.columns,
+        from: run_index(area, n, r),
+        plane: area.rows * area.columns,
+        at: run_position(layout, area, n, r),
+        stride: 32,
+    }
 }

@@ -1,5 +1,13 @@
--- `cube::pack` meets its contract: it packs the rows of the box of the whole cube. Assumes nothing.
-use mathlib.Core.Path.{_≡_, sym, ap, subst⁻¹, _∙_}
+-- `cube::pack` meets its contract: it writes the box of the whole cube, and clears the padding where there is any. Assumes nothing.
+use Prim.Native.Nat.{ℕ, _*_, _%_, _<_, _≤_}
+use native.Mathlib.Omega.{arith}
+use native.Mathlib.Nat.{mul-le-mul}
+use mathlib.Core.Path.{_≡_, refl, sym, ap, subst⁻¹, _∙_}
+use mathlib.Core.Bool.{Bool, true, false, not}
+use lib.Dec.{eqb}
+use borrow.Author.Tests.{eqb-true}
+use Rattle.elements.proofs.ByteLaws.{elementBytes-le}
+use Rattle.layout.specs.Geometry.{sizeOf}
 use lib.ListN.{length}
 use Rattle.refusal.specs.declared.Answer.the-variants.{Accepted}
 use Rattle.refusal.specs.Checks.{inOrder}
@@ -7,8 +15,8 @@ use Rattle.layout.specs.declared.ElementBox.{ElementBox}
 use Rattle.layout.specs.Boxes.{wholeBox}
 use Rattle.layout.specs.Rules.{admitChecks}
 use Rattle.layout.specs.Calls.{writeBoxAnswer}
-use Rattle.layout.proofs.CallLaws.{pack-whole, write-admitted}
-use Rattle.cube.specs.Rowwise.{rowsPacked}
+use Rattle.layout.proofs.CallLaws.{pack-whole, write-admitted, admitted}
+use Rattle.cube.specs.Steps.{boxWritten}
 use Rattle.cube.proofs.FinalLaws.{packed-whole, pack-kept}
 use borrow.Author.Needs.{needs}
 use Rattle.cube.proofs.pack.Statement.{statement}
@@ -33,6 +41,27 @@ admits c =
     let a = start (judged c) .args in
     write-admitted (a .layout) (wholeBox (a .layout)) (a .elements .now) (length (a .buffer .now)) (accepted c)
 
+-- the bytes of all channels, with the element size as it was returned
+bytes : (c : tie.After-element-bytes) → start (judged (c .before)) .args .layout .channels * c .element-bytes .result ≤ 16384
+bytes c =
+    let q = start (judged (c .before)) .args .layout in
+    let a = start (judged (c .before)) .args in
+    let ok = admitted q (wholeBox q) (length (a .elements .now)) (length (a .buffer .now)) (admits (c .before)) .layout in
+    mul-le-mul {n₁ = q .channels} {m₁ = c .element-bytes .result} {n₂ = 8192} {m₂ = 2} (ok .channels-le) (subst⁻¹ (λ (e : ℕ). e ≤ 2) (c .element-bytes .ensures) (elementBytes-le (q .precision)))
+
+-- whether the channels leave padding in their last atoms
+abbrev padded : tie.After-element-bytes → Bool
+padded c = not (eqb (start (judged (c .before)) .args .layout .channels * c .element-bytes .result % 32) 0)
+
+filled : (b : Bool) → not b ≡ false → b ≡ true
+filled true e = refl
+filled false e = sym e
+
+full : (c : tie.After-element-bytes) → padded c ≡ false → start (judged (c .before)) .args .layout .channels * sizeOf (start (judged (c .before)) .args .layout) % 32 ≡ 0
+full c e =
+    let q = start (judged (c .before)) .args .layout in
+    sym (ap (λ (x : ℕ). q .channels * x % 32) (c .element-bytes .ensures)) ∙ eqb-true (q .channels * c .element-bytes .result % 32) 0 (filled _ e)
+
 whole-requires : tie.Need-whole-requires
 whole-requires c κs = search needs
 
@@ -50,22 +79,32 @@ returns c = let d = c .before .before in
     let a = start d .args in
     (answer d ∙ sym (pack-whole (a .layout) (a .elements .now) (length (a .buffer .now))), pack-kept (a .layout) (a .elements .now) (a .buffer .now) (sym (answer d) ∙ c .enum-told2 .given .1))
 
-rows-requires : tie.Need-rows-requires
-rows-requires c κs = let d = c .before .before .before in
-    let a = start d .args in
-    subst⁻¹ (λ (b : ElementBox). inOrder (admitChecks (a .layout) b (length (a .elements .now)) (length (a .buffer .now))) ≡ Accepted) (d .before .whole .ensures) (admits (c .before))
+element-bytes-requires : tie.Need-element-bytes-requires
+element-bytes-requires c κs = search needs
+
+mul-pad : tie.Need-mul-pad
+mul-pad c = omega (arith, bytes (c .before))
+
+all-requires : tie.Need-all-requires
+all-requires c κs = let e = c .before .before .before in
+    let d = judged e in
+    let a = start d .args in (
+      subst⁻¹ (λ (b : ElementBox). inOrder (admitChecks (a .layout) b (length (a .elements .now)) (length (a .buffer .now))) ≡ Accepted) (d .before .whole .ensures) (admits e),
+      λ t. d .before .whole .ensures,
+    )
 
 same-length : tie.Need-same-length
 same-length c = search needs
 
 returns-2 : tie.Need-returns-2
 returns-2 c = let f = c .before .before in
-    let e = f .before .before in
-    let d = e .before .before in
+    let b = f .before .before .before in
+    let e = b .before in
+    let d = judged e in
     let a = start d .args in (
       sym (accepted e) ∙ sym (pack-whole (a .layout) (a .elements .now) (length (a .buffer .now))),
-      packed-whole (a .layout) (a .elements .now) (a .buffer .now) (accepted e)
-          (f .rows .ensures ∙ ap (λ (b : ElementBox). rowsPacked (a .layout) b (a .elements .now) (b .rows) (a .buffer .now)) (d .before .whole .ensures)),
+      packed-whole (a .layout) (a .elements .now) (a .buffer .now) (padded b) (accepted e) (full b)
+          (f .all .ensures ∙ ap (λ (x : ElementBox). boxWritten (a .layout) x (padded b) (a .elements .now) (a .buffer .now)) (d .before .whole .ensures)),
     )
 
 pub pack-spec : {M : Type 1} → statement M
@@ -77,6 +116,8 @@ pack-spec =
     enum-told
     enum-told-2
     returns
-    rows-requires
+    element-bytes-requires
+    mul-pad
+    all-requires
     same-length
     returns-2)

@@ -30,9 +30,9 @@ returns c = let d = c .before .before in
     let a = d .before .before .args in
     (d .admit .ensures, read-kept (a .layout) (a .area) (a .buffer .now) (a .elements .now) (sym (d .admit .ensures) ∙ c .enum-told2 .given .1))
 
-rows-requires : tie.Need-rows-requires
+all-requires : tie.Need-all-requires
 unfolding readBoxAnswer
-rows-requires c κs = accepted (c .before)
+all-requires c κs = accepted (c .before)
 
 same-length : tie.Need-same-length
 same-length c = search needs
@@ -42,9 +42,9 @@ unfolding readBoxAnswer
 returns-2 c = let f = c .before in
     let e = f .before .before in
     let a = start e .args in
-    (sym (accepted e), was-read (a .layout) (a .area) (a .buffer .now) (a .elements .now) (accepted e) (f .rows .ensures))
+    (sym (accepted e), was-read (a .layout) (a .area) (a .buffer .now) (a .elements .now) (accepted e) (f .all .ensures))
 
 pub read-box-spec : {M : Type 1} → statement M
 read-box-spec =
     tie.close
-    (tie.spec admit-requires enum-told enum-told-2 returns rows-requires same-length returns-2)
+    (tie.spec admit-requires enum-told enum-told-2 returns all-requires same-length returns-2)

@@ -7,7 +7,7 @@ use Rattle.layout.specs.Boxes.{wholeBox}
 use Rattle.layout.specs.Rules.{admitChecks}
 use Rattle.layout.specs.Calls.{readBoxAnswer}
 use Rattle.layout.proofs.CallLaws.{unpack-whole}
-use Rattle.cube.specs.Steps.{rowsRead}
+use Rattle.layout.specs.Contents.{boxElements}
 use Rattle.cube.proofs.FinalLaws.{unpacked-whole, unpack-kept}
 use borrow.Author.Needs.{needs}
 use Rattle.cube.proofs.unpack.Statement.{statement}
@@ -39,8 +39,8 @@ returns c = let d = c .before .before in
     let a = start d .args in
     (answer d ∙ sym (unpack-whole (a .layout) (length (a .elements .now)) (length (a .buffer .now))), unpack-kept (a .layout) (a .buffer .now) (a .elements .now) (sym (answer d) ∙ c .enum-told2 .given .1))
 
-rows-requires : tie.Need-rows-requires
-rows-requires c κs = let d = c .before .before .before in
+all-requires : tie.Need-all-requires
+all-requires c κs = let d = c .before .before .before in
     sym (d .admit .ensures) ∙ c .before .enum-told .given .1
 
 same-length : tie.Need-same-length
@@ -53,7 +53,7 @@ returns-2 c = let f = c .before in
     let a = start d .args in
     let ok = sym (answer d) ∙ e .enum-told .given .1 in (
       sym ok ∙ sym (unpack-whole (a .layout) (length (a .elements .now)) (length (a .buffer .now))),
-      unpacked-whole (a .layout) (a .buffer .now) (a .elements .now) ok (f .rows .ensures ∙ ap (λ (b : ElementBox). rowsRead (a .layout) b (a .buffer .now) (b .rows) (a .elements .now)) (d .before .whole .ensures)),
+      unpacked-whole (a .layout) (a .buffer .now) (a .elements .now) ok (f .all .ensures ∙ ap (λ (b : ElementBox). boxElements (a .layout) b (a .buffer .now)) (d .before .whole .ensures)),
     )
 
 pub unpack-spec : {M : Type 1} → statement M
@@ -65,6 +65,6 @@ unpack-spec =
     enum-told
     enum-told-2
     returns
-    rows-requires
+    all-requires
     same-length
     returns-2)

