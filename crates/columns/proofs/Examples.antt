@@ -1,8 +1,7 @@
 -- Worked examples: what the definitions come to. Assumes nothing.
 use mathlib.Core.Path.{_≡_, refl}
-use mathlib.Core.List.{List, [], _∷_}
-use Prim.Native.Nat.{ℕ}
-use lib.IntN.{ℤ, pos, negsuc}
+use mathlib.Core.List.{[], _∷_}
+use lib.IntN.{pos, negsuc}
 use Rattle.elements.specs.Lists.{remade, remadeFrom}
 use Rattle.elements.specs.Bytes.{byteOf, elementAt, wordAt, signed}
 use Rattle.columns.specs.Columns.{columns, inColumns, columnByte, rowsWritten, listed, columnElement, rowsRead}

@@ -2,6 +2,7 @@
 --     ColumnLaws   columns, entry by entry, and how they grow
 --     UnitLaws     the bytes of elements, units of two, tiles, bands
 --     ReadLaws     the elements of bytes
+--     RowLaws      rows below rows
 --     StripLaws    strips of columns
 --     TowardLaws   columns as a step toward a goal list
 --     ClearLaws    bytes cleared
@@ -10,6 +11,7 @@
 pub mod ColumnLaws
 pub mod UnitLaws
 pub mod ReadLaws
+pub mod RowLaws
 pub mod StripLaws
 pub mod TowardLaws
 pub mod ClearLaws

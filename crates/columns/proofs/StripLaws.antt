@@ -3,15 +3,15 @@
 --     written-none, written-strip     no column written; a strip more
 --     read-none, read-strip           no column read; a strip more
 --     written-length, read-length     the lists keep their lengths
-use Prim.Native.Nat.{ℕ, _+_, _*_, _%_, _≤_, _<_}
+use Prim.Native.Nat.{ℕ, _+_, _*_, _%_, _≤_}
 use native.Mathlib.Omega.{arith}
 use native.Mathlib.Nat.{mul-add, mul-le-mul-left}
-use mathlib.Core.Path.{_≡_, ap, _∙_}
+use mathlib.Core.Path.{_≡_, ap}
 use mathlib.Core.List.{List}
 use lib.IntN.{ℤ, pos}
 use lib.ListN.{length}
 use Rattle.elements.specs.Bytes.{byteOf, elementAt}
-use Rattle.columns.specs.Columns.{columns, columnByte, rowsWritten, columnElement, rowsRead}
+use Rattle.columns.specs.Columns.{columnByte, rowsWritten, columnElement, rowsRead}
 use Rattle.columns.proofs.ColumnLaws.{columns-none, columns-empty, columns-length}
 use Rattle.columns.proofs.UnitLaws.{under-step, beside-step}
 

@@ -6,12 +6,12 @@ use Prim.Native.Nat.{ℕ, _+_, _*_, _/_, _%_, _≤_, _<_}
 use native.Mathlib.Omega.{arith}
 use native.Mathlib.Nat.{div-add-mod', mod-lt, div-lt-iff-lt-mul, mul-comm}
 use native.Mathlib.Decide.{decLt}
-use mathlib.Core.Path.{_≡_, refl, sym, ap, subst, _∙_}
+use mathlib.Core.Path.{_≡_, sym, ap, subst, _∙_}
 use mathlib.Core.Logic.{inl, inr, ⊎-elim}
 use mathlib.Core.List.{List}
 use lib.ListN.{length, getD, List·getD-eq-default}
 use Rattle.elements.proofs.Toward.{Toward}
-use lib.Arith.{digits-div, digits-mod, digits-lt}
+use lib.Arith.{digits-lt}
 use lib.IntN.{ℤ, pos}
 use Rattle.elements.specs.Bytes.{byteOf, elementAt}
 use Rattle.columns.specs.declared.ColumnBlock.{ColumnBlock}

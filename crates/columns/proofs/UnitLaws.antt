@@ -9,17 +9,17 @@
 use Prim.Native.Nat.{ℕ, zero, suc, _+_, _-_, _*_, _/_, _%_, _^_, _≤_, _<_}
 use native.Mathlib.Omega.{arith}
 use native.Mathlib.Numerals.{add-one}
-use native.Mathlib.Nat.{add-zero, zero-div, div-add-mod', suc-mul, mul-le-mul, mul-suc, mul-le-mul-left, mul-le-mul-right, add-mul, mul-assoc, mul-add-div-right, mul-add-mod-self-right, mod-lt, le-of-suc-le-suc, not-suc-le-zero, eq-or-lt-of-le}
+use native.Mathlib.Nat.{add-zero, mul-suc, mul-le-mul-left, add-mul, mul-assoc, mul-add-div-right, mul-add-mod-self-right, mod-lt, le-of-suc-le-suc, not-suc-le-zero, eq-or-lt-of-le}
 use mathlib.Core.Path.{_≡_, refl, sym, ap, subst, _∙_}
 use mathlib.Core.Logic.{_⊎_, inl, inr, ⊎-elim}
 use mathlib.Core.List.{List}
 use lib.ListN.{length, getD, set, length-set}
 use lib.Seq.{getD-set-same, getD-set-other}
-use lib.IntN.{ℤ, pos}
+use lib.IntN.{ℤ}
 use Rattle.elements.specs.Bytes.{byteOf}
 use Rattle.elements.proofs.ByteLaws.{byteOf-lt}
-use Rattle.columns.specs.Columns.{columns, columnByte, rowsWritten, columnUnit, tileByte, bytesSet, unitsSet, tileSet}
-use Rattle.columns.proofs.ColumnLaws.{columns-more, columns-under, columns-beside, columns-empty, columns-ext}
+use Rattle.columns.specs.Columns.{columns, columnByte, columnUnit, tileByte, bytesSet, unitsSet, tileSet}
+use Rattle.columns.proofs.ColumnLaws.{columns-more, columns-under, columns-beside}
 
 -- ---- the bytes of a column
 
@@ -199,96 +199,14 @@ pub under-step : {A : Type 0} (dflt : A) (f g : ℕ → ℕ → A) (k d n at str
 under-step dflt f g k d n at stride q {buf} {after} before fit e hq hb ha =
     ha ∙ ap (λ (x : ℕ). columns g d n x stride buf) hq ∙ ap (columns g d n (at + k) stride) hb ∙ columns-under dflt f g k d n at stride fit before e
 
-module _ (e : ℕ) (low : 1 ≤ e) (high : e ≤ 2) where
-  -- b bands are b * (4 * (3 - e)) rows and 8 * b bytes
-  pub band-bytes : (b : ℕ) → b * (4 * (3 - e)) * e ≡ 8 * b
-  band-bytes b =
-      mul-assoc b (4 * (3 - e)) e ∙ ap (λ (x : ℕ). b * x) (mul-assoc 4 (3 - e) e ∙ ap (λ (x : ℕ). 4 * x) (pair-two e low high)) ∙ omega arith
-
-  pub band-rows : (b plane : ℕ) → b * (4 * (3 - e)) * plane ≡ b * (4 * ((3 - e) * plane))
-  band-rows b plane = mul-assoc b (4 * (3 - e)) plane ∙ ap (λ (x : ℕ). b * x) (mul-assoc 4 (3 - e) plane)
-
-  -- a unit more
-  pub unit-rows : (r : ℕ) → r * e + 2 ≡ (r + (3 - e)) * e
-  unit-rows r = omega (arith, add-mul r (3 - e) e, pair-two e low high)
-
-  pub unit-room : (r rows plane : ℕ) → r + (3 - e) ≤ rows → (r * e + 2 ≤ rows * e) × (r * plane + (3 - e) * plane ≤ rows * plane)
-  unit-room r rows plane h =
-      (omega (arith, unit-rows r, mul-le-mul-right {m = r + (3 - e)} {n = rows} e h), omega (arith, add-mul r (3 - e) plane, mul-le-mul-right {m = r + (3 - e)} {n = rows} plane h))
-
--- a band more
-pub band-room : (b bands s : ℕ) → b < bands → b * s + s ≤ bands * s
-band-room b bands s h = omega (arith, suc-mul b s, mul-le-mul-right {m = suc b} {n = bands} s h)
-
 pub stride-le : (stride n : ℕ) → 1 ≤ n → stride ≤ stride * n
 stride-le stride n h = omega (arith, mul-le-mul-left {m = 1} {n = n} stride h)
-
--- the last byte of a column, of elements of one byte
-pub last-byte : (e : ℕ) → e ≡ 1 → (source : ℕ → ℤ) (from plane r p i b : ℕ) → p ≡ from + r * plane → b < 1 → columnByte 1 source p 0 i b ≡ columnByte e source from plane i (r * e + b)
-last-byte e one source from plane r p i b hp hb =
-    let z : b ≡ 0 = omega arith in
-    ap (columnByte 1 source p 0 i) z
-    ∙ first-byte source p 0 i
-    ∙ sym (first-byte source p plane i)
-    ∙ ap (columnByte 1 source p plane i) (sym z)
-    ∙ ap (λ (x : ℕ). columnByte x source p plane i b) (sym one)
-    ∙ rows-at e (omega arith) source from plane r (r * e) p i b hp refl
-
-pub columns-start : {A : Type 0} (dflt : A) (byte : ℕ → ℕ → A) (k n at stride : ℕ) (buf : List A) → k ≡ 0 → buf ≡ columns byte k n at stride buf
-columns-start dflt byte k n at stride buf h = columns-empty dflt byte n at stride buf ∙ ap (λ (x : ℕ). columns byte x n at stride buf) (sym h)
 
 pub beside-step : {A : Type 0} (dflt : A) (f g : ℕ → ℕ → A) (k n m at stride q : ℕ) {buf after : List A} (before : List A) → k ≤ stride
     → ((i b : ℕ) → i < m → b < k → g i b ≡ f (n + i) b) → q ≡ at + stride * n → buf ≡ columns f k n at stride before → after ≡ columns g k m q stride buf
     → after ≡ columns f k (n + m) at stride before
 beside-step dflt f g k n m at stride q {buf} {after} before fit e hq hb ha =
     ha ∙ ap (λ (x : ℕ). columns g k m x stride buf) hq ∙ ap (columns g k m (at + stride * n) stride) hb ∙ columns-beside dflt f g k n m at stride fit before e
-
--- ---- the rows of whole bands, and those behind them
-
-abbrev pub bandsOf : ℕ → ℕ → ℕ
-bandsOf e rows = rows / (4 * (3 - e))
-
-abbrev pub doneOf : ℕ → ℕ → ℕ
-doneOf e rows = bandsOf e rows * (4 * (3 - e))
-
-pub record Parts (e rows plane : ℕ) : Type 0 where
-  pub le : doneOf e rows ≤ rows
-  pub sum : doneOf e rows + (rows - doneOf e rows) ≡ rows
-  pub bytes : doneOf e rows * e ≡ 8 * bandsOf e rows
-  pub planes : doneOf e rows * plane ≡ bandsOf e rows * (4 * ((3 - e) * plane))
-  pub all-bytes : doneOf e rows * e + (rows - doneOf e rows) * e ≡ rows * e
-  pub all-planes : doneOf e rows * plane + (rows - doneOf e rows) * plane ≡ rows * plane
-
-pub parts-of : (e : ℕ) → 1 ≤ e → e ≤ 2 → (rows plane : ℕ) → Parts e rows plane
-parts-of e low high rows plane =
-    let le : doneOf e rows ≤ rows = omega (arith, div-add-mod' rows (4 * (3 - e))) in
-    let sum : doneOf e rows + (rows - doneOf e rows) ≡ rows = omega arith in
-    record {
-      le = le;
-      sum = sum;
-      bytes = band-bytes e low high (bandsOf e rows);
-      planes = band-rows e low high (bandsOf e rows) plane;
-      all-bytes = sym (add-mul (doneOf e rows) (rows - doneOf e rows) e) ∙ ap (λ (x : ℕ). x * e) sum;
-      all-planes = sym (add-mul (doneOf e rows) (rows - doneOf e rows) plane) ∙ ap (λ (x : ℕ). x * plane) sum;
-    }
-
--- ---- other sources
-
--- zeros written are zero bytes
-pub zeros-written : (e from plane rows n at stride : ℕ) (buf : List ℕ) → rows * e ≤ stride
-    → rowsWritten e (λ (i : ℕ). pos 0) from plane rows n at stride buf ≡ columns (λ (i : ℕ) (b : ℕ). 0) (rows * e) n at stride buf
-unfolding rowsWritten columnByte byteOf
-zeros-written e from plane rows n at stride buf fit =
-    columns-ext 0 (columnByte e (λ (i : ℕ). pos 0) from plane) (λ (i : ℕ) (b : ℕ). 0) (rows * e) n at stride buf fit (λ i b hi hb. ap (λ (x : ℕ). x % 256) (zero-div (256 ^ (b % e))))
-
--- n + m columns: strips side by side
-pub strips-written : (e : ℕ) (source : ℕ → ℤ) (from plane rows n m at stride : ℕ) (buf : List ℕ) → rows * e ≤ stride
-    → rowsWritten e source (from + n) plane rows m (at + stride * n) stride (rowsWritten e source from plane rows n at stride buf)
-    ≡ rowsWritten e source from plane rows (n + m) at stride buf
-unfolding rowsWritten columnByte
-strips-written e source from plane rows n m at stride buf fit =
-    columns-beside 0 (columnByte e source from plane) (columnByte e source (from + n) plane) (rows * e) n m at stride fit buf
-    (λ i b hi hb. ap (λ (x : ℕ). byteOf (source x) (b % e)) (omega arith))
 
 pub tileSet-length : (l : List ℕ) (i a b c d : ℕ) → length (tileSet l i a b c d) ≡ length l
 tileSet-length l i a b c d = simp length-set refl

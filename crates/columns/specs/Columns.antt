@@ -53,11 +53,6 @@ abbrev pub unitsSet : (a b c d p : ℕ) → List ℕ → List ℕ
 unitsSet a b c d p buf =
     set (set (set (set (set (set (set (set buf p (a % 256)) (p + 1) (a / 256 % 256)) (p + 2) (b % 256)) (p + 3) (b / 256 % 256)) (p + 4) (c % 256)) (p + 5) (c / 256 % 256)) (p + 6) (d % 256)) (p + 7) (d / 256 % 256)
 
--- n steps, one after another
-unfoldable pub steps : {L : Type 0} → (ℕ → L → L) → ℕ → L → L
-steps step zero l = l
-steps step (suc n) l = step n (steps step n l)
-
 -- ---- reading: the elements are the columns, of n elements each, `plane` apart, and the bytes the source
 
 -- the element of row r of column i: the e bytes behind those of the rows before

@@ -130,110 +130,37 @@ fn write_byte(
     }
 }
 
-// Eight bytes of each column.
-fn write_band(
-    e: u32,
-    elements: &[i16],
-    from: usize,
-    plane: usize,
-    count: usize,
-    tile: &mut [u16; 256],
-    buffer: &mut [u8],
-    at: usize,
-    stride: usize,
-)
-    requires { ⌜ (1 ≤ e) × (e ≤ 2) × (count ≤ 64) × (length (now tile) ≡ 256) ⌝ }
-    requires { ⌜ from + 4 * ((3 - e) * plane) + count ≤ length (now elements) + plane ⌝ }
-    requires { ⌜ (8 ≤ stride) × (at + stride * count + 8 ≤ length (now buffer) + stride) ⌝ }
-    ensures kept { λ _. ⌜ length (now (tile .exit)) ≡ 256 ⌝ }
-    ensures written { λ _. ⌜ now (buffer .exit) ≡ columns (columnByte e (listed (now (elements .entry))) from plane) 8 count at stride (now (buffer .entry)) ⌝ }
-{
-    join(e, elements, from, plane, count, tile);
-    write_tile(tile, count, buffer, at, stride);
-}
-
-// Bands of rows: each fills eight bytes of a column.
-fn write_bands(
-    e: u32,
-    elements: &[i16],
-    from: usize,
-    plane: usize,
-    bands: u32,
-    count: usize,
-    buffer: &mut [u8],
-    at: usize,
-    stride: usize,
-)
-    requires { ⌜ (1 ≤ e) × (e ≤ 2) × (1 ≤ count) × (count ≤ 64) × (1 ≤ bands) ⌝ }
-    requires { ⌜ from + bands * (4 * ((3 - e) * plane)) + count ≤ length (now elements) + plane ⌝ }
-    requires { ⌜ (8 * bands ≤ stride) × (at + stride * count + 8 * bands ≤ length (now buffer) + stride) ⌝ }
-    ensures { λ _. ⌜ now (buffer .exit) ≡ columns (columnByte e (listed (now (elements .entry))) from plane) (8 * bands) count at stride (now (buffer .entry)) ⌝ }
-{
-    let mut tile = [0u16; 256];
-    let step = 4 * ((3 - e) as usize * plane);
-    let mut source = from;
-    let mut to = at;
-    let mut b: u32 = 0;
-    while b < bands {
-        write_band(
-            e,
-            elements,
-            source,
-            plane,
-            count,
-            &mut tile,
-            buffer,
-            to,
-            stride,
-        );
-        source += step;
-        to += 8;
-        b += 1;
-    }
-}
-
-// Rows unit by unit, and a last byte.
-fn write_rest(
+// The next rows: as many as fill eight bytes of a column, or else two, or one; gives how many.
+fn write_some(
     e: u32,
     elements: &[i16],
     from: usize,
     plane: usize,
     rows: u32,
     count: usize,
+    tile: &mut [u16; 256],
     buffer: &mut [u8],
     at: usize,
     stride: usize,
-)
-    requires { ⌜ (1 ≤ e) × (e ≤ 2) × (1 ≤ count) × (rows * e ≤ 4294967295) ⌝ }
+) -> u32
+    requires { ⌜ (1 ≤ e) × (e ≤ 2) × (1 ≤ rows) × (count ≤ 64) × (length (now tile) ≡ 256) ⌝ }
     requires { ⌜ from + rows * plane + count ≤ length (now elements) + plane ⌝ }
-    requires { ⌜ (1 ≤ stride) × (rows * e ≤ stride) × (at + stride * count + rows * e ≤ length (now buffer) + stride) ⌝ }
-    ensures { λ _. ⌜ now (buffer .exit) ≡ rowsWritten e (listed (now (elements .entry))) from plane rows count at stride (now (buffer .entry)) ⌝ }
+    requires { ⌜ (rows * e ≤ stride) × (at + stride * count + rows * e ≤ length (now buffer) + stride) ⌝ }
+    ensures kept { λ k. ⌜ length (now (tile .exit)) ≡ 256 ⌝ }
+    ensures some { λ k. ⌜ (1 ≤ k) × (k ≤ rows) ⌝ }
+    ensures written { λ k. ⌜ now (buffer .exit) ≡ rowsWritten e (listed (now (elements .entry))) from plane k count at stride (now (buffer .entry)) ⌝ }
 {
-    let pair = 3 - e;
-    let mut r: u32 = 0;
-    while pair <= rows - r {
-        write_unit(
-            e,
-            elements,
-            from + r as usize * plane,
-            plane,
-            count,
-            buffer,
-            at + (r * e) as usize,
-            stride,
-        );
-        r += pair;
+    if 4 * (3 - e) <= rows {
+        join(e, elements, from, plane, count, tile);
+        write_tile(tile, count, buffer, at, stride);
+        return 4 * (3 - e);
     }
-    if r < rows {
-        write_byte(
-            elements,
-            from + r as usize * plane,
-            count,
-            buffer,
-            at + r as usize,
-            stride,
-        );
+    if 3 - e <= rows {
+        write_unit(e, elements, from, plane, count, buffer, at, stride);
+        return 3 - e;
     }
+    write_byte(elements, from, count, buffer, at, stride);
+    1
 }
 
 // Rows of elements that lie `plane` apart, written in at most 64 columns that begin `stride` bytes apart.
@@ -253,24 +180,22 @@ fn write_rows(
     requires { ⌜ (1 ≤ stride) × (rows * e ≤ stride) × (at + stride * count + rows * e ≤ length (now buffer) + stride) ⌝ }
     ensures { λ _. ⌜ now (buffer .exit) ≡ rowsWritten e (listed (now (elements .entry))) from plane rows count at stride (now (buffer .entry)) ⌝ }
 {
-    let few = 4 * (3 - e);
-    let bands = rows / few;
-    let done = bands * few;
-    if 0 < bands {
-        write_bands(e, elements, from, plane, bands, count, buffer, at, stride);
-    }
-    if done < rows {
-        write_rest(
+    let mut tile = [0u16; 256];
+    let mut r: u32 = 0;
+    while r < rows {
+        let k = write_some(
             e,
             elements,
-            from + done as usize * plane,
+            from + r as usize * plane,
             plane,
-            rows - done,
+            rows - r,
             count,
+            &mut tile,
             buffer,
-            at + (done * e) as usize,
+            at + (r * e) as usize,
             stride,
         );
+        r += k;
     }
 }
 
@@ -391,98 +316,33 @@ fn split(e: u32, tile: &[u16; 256], count: usize, elements: &mut [i16], from: us
     split_unit(e, tile, 3, count, elements, from + 3 * step, plane);
 }
 
-// Eight bytes of each column.
-fn read_band(
-    e: u32,
-    buffer: &[u8],
-    at: usize,
-    stride: usize,
-    count: usize,
-    tile: &mut [u16; 256],
-    elements: &mut [i16],
-    from: usize,
-    plane: usize,
-)
-    requires { ⌜ (1 ≤ e) × (e ≤ 2) × (count ≤ 64) × (length (now tile) ≡ 256) × (count ≤ plane) ⌝ }
-    requires { ⌜ from + 4 * ((3 - e) * plane) + count ≤ length (now elements) + plane ⌝ }
-    requires { ⌜ at + stride * count + 8 ≤ length (now buffer) + stride ⌝ }
-    ensures kept { λ _. ⌜ length (now (tile .exit)) ≡ 256 ⌝ }
-    ensures read { λ _. ⌜ now (elements .exit) ≡ columns (columnElement e (now (buffer .entry)) at stride) count (4 * (3 - e)) from plane (now (elements .entry)) ⌝ }
-{
-    read_tile(buffer, at, stride, count, tile);
-    split(e, tile, count, elements, from, plane);
-}
-
-// Bands of rows: each takes eight bytes of a column.
-fn read_bands(
-    e: u32,
-    buffer: &[u8],
-    at: usize,
-    stride: usize,
-    bands: u32,
-    count: usize,
-    elements: &mut [i16],
-    from: usize,
-    plane: usize,
-)
-    requires { ⌜ (1 ≤ e) × (e ≤ 2) × (1 ≤ count) × (count ≤ 64) × (1 ≤ bands) × (count ≤ plane) ⌝ }
-    requires { ⌜ from + bands * (4 * ((3 - e) * plane)) + count ≤ length (now elements) + plane ⌝ }
-    requires { ⌜ at + stride * count + 8 * bands ≤ length (now buffer) + stride ⌝ }
-    ensures { λ _. ⌜ now (elements .exit) ≡ columns (columnElement e (now (buffer .entry)) at stride) count (bands * (4 * (3 - e))) from plane (now (elements .entry)) ⌝ }
-{
-    let mut tile = [0u16; 256];
-    let step = 4 * ((3 - e) as usize * plane);
-    let mut source = at;
-    let mut to = from;
-    let mut b: u32 = 0;
-    while b < bands {
-        read_band(
-            e,
-            buffer,
-            source,
-            stride,
-            count,
-            &mut tile,
-            elements,
-            to,
-            plane,
-        );
-        source += 8;
-        to += step;
-        b += 1;
-    }
-}
-
-// Rows one by one.
-fn read_rest(
+// The next rows: as many as fill eight bytes of a column, or else one; gives how many.
+fn read_some(
     e: u32,
     buffer: &[u8],
     at: usize,
     stride: usize,
     rows: u32,
     count: usize,
+    tile: &mut [u16; 256],
     elements: &mut [i16],
     from: usize,
     plane: usize,
-)
-    requires { ⌜ (1 ≤ e) × (e ≤ 2) × (1 ≤ count) × (rows * e ≤ 4294967295) × (count ≤ plane) ⌝ }
+) -> u32
+    requires { ⌜ (1 ≤ e) × (e ≤ 2) × (1 ≤ rows) × (count ≤ 64) × (length (now tile) ≡ 256) × (count ≤ plane) ⌝ }
     requires { ⌜ from + rows * plane + count ≤ length (now elements) + plane ⌝ }
     requires { ⌜ at + stride * count + rows * e ≤ length (now buffer) + stride ⌝ }
-    ensures { λ _. ⌜ now (elements .exit) ≡ rowsRead e (now (buffer .entry)) at stride rows count from plane (now (elements .entry)) ⌝ }
+    ensures kept { λ k. ⌜ length (now (tile .exit)) ≡ 256 ⌝ }
+    ensures some { λ k. ⌜ (1 ≤ k) × (k ≤ rows) ⌝ }
+    ensures read { λ k. ⌜ now (elements .exit) ≡ rowsRead e (now (buffer .entry)) at stride k count from plane (now (elements .entry)) ⌝ }
 {
-    let mut r: u32 = 0;
-    while r < rows {
-        read_row(
-            e,
-            buffer,
-            at + (r * e) as usize,
-            stride,
-            count,
-            elements,
-            from + r as usize * plane,
-        );
-        r += 1;
+    if 4 * (3 - e) <= rows {
+        read_tile(buffer, at, stride, count, tile);
+        split(e, tile, count, elements, from, plane);
+        return 4 * (3 - e);
     }
+    read_row(e, buffer, at, stride, count, elements, from);
+    1
 }
 
 // Rows of elements read from at most 64 columns that begin `stride` bytes apart, to `plane` apart.
@@ -502,24 +362,22 @@ fn read_rows(
     requires { ⌜ at + stride * count + rows * e ≤ length (now buffer) + stride ⌝ }
     ensures { λ _. ⌜ now (elements .exit) ≡ rowsRead e (now (buffer .entry)) at stride rows count from plane (now (elements .entry)) ⌝ }
 {
-    let few = 4 * (3 - e);
-    let bands = rows / few;
-    let done = bands * few;
-    if 0 < bands {
-        read_bands(e, buffer, at, stride, bands, count, elements, from, plane);
-    }
-    if done < rows {
-        read_rest(
+    let mut tile = [0u16; 256];
+    let mut r: u32 = 0;
+    while r < rows {
+        let k = read_some(
             e,
             buffer,
-            at + (done * e) as usize,
+            at + (r * e) as usize,
             stride,
-            rows - done,
+            rows - r,
             count,
+            &mut tile,
             elements,
-            from + done as usize * plane,
+            from + r as usize * plane,
             plane,
         );
+        r += k;
     }
 }
 

@@ -1,7 +1,7 @@
 -- What the calls' loops come to in the terms of the promises: packing, unpacking, and writing and reading a box. Assumes nothing.
 --     written, was-read, packed-whole, unpacked-whole     accepted calls
 --     write-kept, read-kept, pack-kept, unpack-kept       refused calls
-use Prim.Native.Nat.{ℕ, _+_, _*_, _%_, _≤_}
+use Prim.Native.Nat.{ℕ, _*_, _%_}
 use native.Mathlib.Omega.{arith}
 use mathlib.Core.Path.{_≡_, refl, sym, ap, _∙_}
 use mathlib.Core.Bool.{Bool, true, false}

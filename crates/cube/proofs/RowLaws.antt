@@ -7,7 +7,7 @@ use native.Mathlib.Omega.{arith}
 use native.Mathlib.Nat.{mul-le-mul-right, suc-mul, not-suc-le-zero, le-of-suc-le-suc}
 use mathlib.Core.Path.{_≡_, sym, ap, _∙_}
 use Rattle.elements.proofs.ByteLaws.{elementBytes-pos, elementBytes-le}
-use Rattle.columns.proofs.BlockLaws.{Fits, BlockFits}
+use Rattle.columns.proofs.BlockLaws.{BlockFits}
 use Rattle.layout.specs.declared.CubeLayout.{CubeLayout}
 use Rattle.layout.specs.declared.ElementBox.{ElementBox}
 use Rattle.layout.specs.Geometry.{sizeOf, cubeExtent}

@@ -1,12 +1,12 @@
 -- A row of a box written, its atoms cleared before or not, comes toward what the buffer is to become, and reaches it in its channels; where the
 -- atoms are cleared, they hold the last channels and the padding alone. Assumes nothing.
 --     RowDone, row-done     one row written comes toward the goal, and reaches it in each of its channels
-use Prim.Native.Nat.{ℕ, suc, _+_, _-_, _*_, _/_, _%_, _≤_, _<_}
+use Prim.Native.Nat.{ℕ, _+_, _-_, _*_, _/_, _%_, _≤_, _<_}
 use native.Mathlib.Omega.{arith}
 use native.Mathlib.Decide.{decLt}
 use native.Mathlib.Nat.{add-mul, div-add-mod', mod-lt, mul-le-mul-right}
-use mathlib.Core.Path.{_≡_, refl, sym, ap, subst, _∙_}
-use mathlib.Core.Bool.{Bool, true, false, cond, _&&_}
+use mathlib.Core.Path.{_≡_, sym, ap, subst, _∙_}
+use mathlib.Core.Bool.{Bool, true, false, _&&_}
 use mathlib.Core.Logic.{_⊎_, inl, inr, ⊎-elim}
 use mathlib.Core.List.{List}
 use lib.Dec.{eqb}
@@ -25,7 +25,6 @@ use Rattle.layout.specs.declared.CubeLayout.{CubeLayout}
 use Rattle.layout.specs.declared.ElementBox.{ElementBox}
 use Rattle.layout.specs.Geometry.{sizeOf, surfaces, elementPosition, atomPosition, cubeExtent}
 use Rattle.layout.specs.Boxes.{wholeBox, boxCount}
-use Rattle.layout.specs.Owners.{padding, owner}
 use Rattle.layout.proofs.Taken.{Taken}
 use Rattle.layout.proofs.BoxLaws.{BoxTaken}
 use Rattle.layout.proofs.Views.{element-surface}

@@ -1,16 +1,13 @@
 -- `columns::clear` meets its contract. The loop's invariant: the bytes before p are cleared. Assumes nothing.
-use Prim.Native.Nat.{ℕ, _+_, _-_, _<_, _≤_}
+use Prim.Native.Nat.{ℕ, _+_, _-_, _≤_}
 use native.Mathlib.Omega.{arith}
-use mathlib.Core.Path.{_≡_, refl, ap, _∙_}
+use mathlib.Core.Path.{_≡_, ap, _∙_}
 use mathlib.Core.Logic.{_⊎_, inl, inr, ⊎-elim}
-use mathlib.Core.List.{List}
 use lib.ListN.{length}
 use Rattle.columns.specs.Blocks.{cleared}
 use Rattle.columns.proofs.ClearLaws.{cleared-length, cleared-none, cleared-past, cleared-more, cleared-all}
 use Rattle.columns.proofs.clear.Statement.{statement}
 use Rattle.columns.proofs.clear.Tie as tie
-use Rattle.columns.proofs.clear.Reads as reads
-use Rattle.columns.proofs.clear.Lts as lts
 
 abbrev Inv-loop : tie.InvT-loop
 Inv-loop at count buffer₀ len end p₀ buffer p = (at ≤ p) × (p ≤ end) × (buffer ≡ cleared at (p - at) buffer₀)

@@ -1,18 +1,16 @@
 -- `columns::fits` meets its contract: its tests are the definition's, where no number passes 64 bits. Assumes nothing.
-use Prim.Native.Nat.{ℕ, _+_, _-_, _*_, _<_, _≤_}
+use Prim.Native.Nat.{_+_, _-_, _*_, _≤_}
 use native.Mathlib.Omega.{arith}
 use native.Mathlib.Nat.{mul-le-mul}
 use mathlib.Core.Path.{_≡_, sym, _∙_}
-use mathlib.Core.Bool.{Bool, true, false, _&&_}
+use mathlib.Core.Bool.{true, _&&_}
 use lib.Dec.{leb}
 use borrow.Author.Tests.{leb-true, le-leb}
 use Rattle.elements.proofs.ValueLaws.{and-true}
-use Rattle.columns.proofs.BlockLaws.{Fits, both-true, fitting-same, fitting-false}
+use Rattle.columns.proofs.BlockLaws.{both-true, fitting-same, fitting-false}
 use borrow.Author.Needs.{needs}
 use Rattle.columns.proofs.fits.Statement.{statement}
 use Rattle.columns.proofs.fits.Tie as tie
-use Rattle.columns.proofs.fits.Reads as reads
-use Rattle.columns.proofs.fits.Lts as lts
 
 -- the first tests hold
 tests : (c : tie.Then1) → let a = c .before .args in (1 ≤ a .size) × (a .size ≤ 2) × (1 ≤ a .rows) × (1 ≤ a .count) × (a .from ≤ a .given) × (a .at ≤ a .len)

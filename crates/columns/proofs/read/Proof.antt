@@ -1,8 +1,8 @@
 -- `columns::read` meets its contract: a block that fits is read in strips. Assumes nothing.
-use Prim.Native.Nat.{ℕ, _*_, _≤_}
+use Prim.Native.Nat.{_≤_}
 use native.Mathlib.Omega.{arith}
-use mathlib.Core.Path.{_≡_, sym, ap, _∙_}
-use mathlib.Core.Bool.{Bool, true, _&&_}
+use mathlib.Core.Path.{sym, ap, _∙_}
+use mathlib.Core.Bool.{Bool, _&&_}
 use lib.Dec.{leb}
 use lib.ListN.{length}
 use borrow.Author.Tests.{leb-true}
@@ -12,10 +12,6 @@ use Rattle.columns.proofs.BlockLaws.{BlockFits, fitting-of, rows-end, c
 use borrow.Author.Needs.{needs}
 use Rattle.columns.proofs.read.Statement.{statement}
 use Rattle.columns.proofs.read.Tie as tie
-use Rattle.columns.proofs.read.Reads as reads
-use Rattle.columns.proofs.read.Lts as lts
-use Rattle.columns.proofs.fits.Reads as fits-reads
-use Rattle.columns.proofs.read_strips.Reads as read-strips-reads
 
 fit : (c : tie.Then1) → let a = c .before .before .before .before .args in
     BlockFits (a .block) (length (a .elements .now)) (length (a .buffer .now)) × (a .block .count ≤ a .block .plane)

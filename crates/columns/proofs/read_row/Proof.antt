@@ -1,10 +1,8 @@
 -- `columns::read_row` meets its contract. The loop's invariant: the first i elements are read. Assumes nothing.
-use Prim.Native.Nat.{ℕ, suc, _+_, _-_, _*_, _/_, _%_, _<_, _≤_}
+use Prim.Native.Nat.{ℕ, _+_, _-_, _*_, _≤_}
 use native.Mathlib.Omega.{arith}
-use mathlib.Core.Path.{_≡_, refl, sym, ap, _∙_}
-use mathlib.Core.List.{List}
-use lib.ListN.{length, getD, set, length-set}
-use lib.IntN.{ℤ, pos}
+use mathlib.Core.Path.{_≡_, sym, ap, _∙_}
+use lib.ListN.{length}
 use borrow.Author.Needs.{sfits-of}
 use mir.Facts.{toZ-ofZ}
 use Rattle.columns.specs.Columns.{bytesSet, columnElement}
@@ -13,9 +11,6 @@ use Rattle.columns.proofs.UnitLaws.{column-room}
 use Rattle.columns.proofs.ReadLaws.{first-row, bytes-start, bytes-step}
 use Rattle.columns.proofs.read_row.Statement.{statement}
 use Rattle.columns.proofs.read_row.Tie as tie
-use Rattle.columns.proofs.read_row.Reads as reads
-use Rattle.columns.proofs.read_row.Lts as lts
-use Rattle.columns.proofs.element.Reads as element-reads
 
 abbrev Inv-loop : tie.InvT-loop
 Inv-loop e buffer at stride count elements₀ from i₀ elements i =

@@ -1,161 +1,128 @@
--- `columns::read_rows` meets its contract: the bands, then the rows behind them, are all rows. Assumes nothing.
-use Prim.Native.Nat.{ℕ, suc, _+_, _-_, _*_, _/_, _%_, _<_, _≤_}
+-- `columns::read_rows` meets its contract. The loop's invariant: the first r rows are read. Assumes nothing.
+use Prim.Native.Nat.{ℕ, _+_, _-_, _*_, _<_, _≤_}
 use native.Mathlib.Omega.{arith}
-use native.Mathlib.Nat.{add-mul, div-add-mod', mul-le-mul-right}
-use mathlib.Core.Path.{_≡_, refl, sym, ap, _∙_}
-use mathlib.Core.Logic.{⊎-elim}
-use mathlib.Core.List.{List}
+use mathlib.Core.Path.{_≡_, refl, ap, _∙_}
 use lib.ListN.{length}
-use lib.IntN.{ℤ, pos}
-use Rattle.columns.specs.Columns.{columns, columnElement, rowsRead}
-use Rattle.columns.proofs.ColumnLaws.{columns-none, columns-length}
-use Rattle.columns.proofs.UnitLaws.{Parts, parts-of, bandsOf, doneOf, stride-le}
-use Rattle.columns.proofs.ReadLaws.{rows-more}
-use borrow.Author.Needs.{needs}
+use Rattle.columns.specs.Columns.{rowsRead}
+use Rattle.columns.proofs.UnitLaws.{stride-le}
+use Rattle.columns.proofs.RowLaws.{rows-left, rows-le, read-rows, read-start}
+use Rattle.columns.proofs.StripLaws.{read-length}
 use Rattle.columns.proofs.read_rows.Statement.{statement}
 use Rattle.columns.proofs.read_rows.Tie as tie
-use Rattle.columns.proofs.read_rows.Reads as reads
-use Rattle.columns.proofs.read_rows.Lts as lts
-use Rattle.columns.proofs.read_bands.Reads as read-bands-reads
-use Rattle.columns.proofs.read_rest.Reads as read-rest-reads
 
--- the rows of the bands, and those behind them
-abbrev bands : tie.Start → ℕ
-bands s = bandsOf (s .args .e) (s .args .rows)
+abbrev Inv-loop : tie.InvT-loop
+Inv-loop e buffer at stride rows count elements₀ from plane tile₀ r₀ elements tile r =
+    (r ≤ rows) × (length tile ≡ 256) × (elements ≡ rowsRead e buffer at stride r count from plane elements₀)
 
-abbrev done : tie.Start → ℕ
-done s = doneOf (s .args .e) (s .args .rows)
+abbrev μ-loop : tie.MeasureT-loop
+μ-loop e buffer at stride rows count elements₀ from plane tile₀ r₀ elements tile r = rows - r
 
-parts : (s : tie.Start) → Parts (s .args .e) (s .args .rows) (s .args .plane)
-parts s = parts-of (s .args .e) (s .pre .0 .0) (s .pre .0 .1) (s .args .rows) (s .args .plane)
+long : (c : tie.At-loop Inv-loop μ-loop) → length (c .loop .elements) ≡ length (c .before .before .args .elements .now)
+long c =
+    let a = c .before .before .args in
+    ap length (c .loop .inv .2) ∙ read-length (a .e) (a .buffer .now) (a .at) (a .stride) (c .loop .r) (a .from) (a .plane) (a .count) (a .elements .now)
 
-begins : (s : tie.Start) → s .args .at + s .args .rows * s .args .e ≤ length (s .args .buffer .now)
-begins s = omega (arith, s .pre .1 .1, stride-le (s .args .stride) (s .args .count) (s .pre .0 .2))
+-- the rows before row r, and those from it on
+left : (c : tie.At-loop Inv-loop μ-loop) → let a = c .before .before .args in
+    let r = c .loop .r in (r * a .e + (a .rows - r) * a .e ≡ a .rows * a .e) × (r * a .plane + (a .rows - r) * a .plane ≡ a .rows * a .plane)
+left c = let a = c .before .before .args in (rows-left (c .loop .r) (a .rows) (a .e) (c .loop .inv .0), rows-left (c .loop .r) (a .rows) (a .plane) (c .loop .inv .0))
 
--- n rows read
-abbrev read : tie.Start → ℕ → List ℤ
-read s n = let a = s .args in columns (columnElement (a .e) (a .buffer .now) (a .at) (a .stride)) (a .count) n (a .from) (a .plane) (a .elements .now)
-
-read-length : (s : tie.Start) (n : ℕ) → length (read s n) ≡ length (s .args .elements .now)
-read-length s n = let a = s .args in columns-length (columnElement (a .e) (a .buffer .now) (a .at) (a .stride)) (a .count) n (a .from) (a .plane) (a .elements .now)
-
-read-none : (s : tie.Start) (n : ℕ) → n ≡ 0 → s .args .elements .now ≡ read s n
-read-none s n h = let a = s .args in
-    columns-none (pos 0) (columnElement (a .e) (a .buffer .now) (a .at) (a .stride)) (a .count) (a .from) (a .plane) (a .elements .now) (s .pre .0 .5) ∙ ap (read s) (sym h)
-
-sub-few : tie.Need-sub-few
-sub-few c = search needs
-
-mul-few : tie.Need-mul-few
-mul-few c = search needs
-
-div-bands : tie.Need-div-bands
-div-bands c = search needs
-
-mul-done : tie.Need-mul-done
-mul-done c = omega (arith, div-add-mod' (c .before .args .rows) (4 * (3 - c .before .args .e)))
-
-read-bands-requires : tie.Need-read-bands-requires
-read-bands-requires c κs = let s = c .before .before .before in
-    let p = parts s in
-    ((s .pre .0 .0, s .pre .0 .1, s .pre .0 .2, s .pre .0 .3, c .before .if1 .taken, s .pre .0 .5), (omega (arith, s .pre .1 .0, p .planes, p .all-planes), omega (arith, s .pre .1 .1, p .bytes, p .all-bytes)))
-
--- the bands are read, whether there are any or not
-above : (c : tie.Joined1) → c .if1 .elements ≡ read (c .before .before) (done (c .before .before))
-above c = let s = c .before .before in
-    ⊎-elim
-    (λ w. w .4 ∙ w .2 .ensures)
-    (λ w. w .1 ∙ read-none s (done s) (omega (arith, ap (λ (x : ℕ). x * (4 * (3 - s .args .e))) (none s (w .0 .left)))))
-    (c .if1 .came)
-  where
-    none : (s : tie.Start) → bands s ≤ 0 → bands s ≡ 0
-    none s h = omega arith
-
-long : (c : tie.Joined1) → length (c .if1 .elements) ≡ length (c .before .before .args .elements .now)
-long c = ap length (above c) ∙ read-length (c .before .before) (done (c .before .before))
-
--- rows are left behind the bands
-some : (c : tie.Then2) → let s = c .before .before .before in s .args .from + done s * s .args .plane < length (s .args .elements .now)
-some c = let s = c .before .before .before in
+-- row r is among the elements, and its bytes in the buffer
+room : (c : tie.In-loop Inv-loop μ-loop) → let a = c .before .before .before .args in
+    let r = c .before .loop .r in (a .from + r * a .plane < length (a .elements .now)) × (r * a .e ≤ 4294967295) × (a .at + r * a .e ≤ length (a .buffer .now))
+room c =
+    let l = c .before in
+    let s = l .before .before in
     let a = s .args in
-    omega (arith, s .pre .1 .0, s .pre .0 .2, parts s .all-planes, mul-le-mul-right {m = 1} {n = a .rows - done s} (a .plane) (omega arith))
+    let r = l .loop .r in
+    let w = left l in (
+      omega (arith, s .pre .1 .0, s .pre .0 .2, w, rows-le 1 (a .rows - r) (a .plane) (omega (arith, c .loop-test .taken))),
+      omega (arith, s .pre .0 .4, w),
+      omega (arith, s .pre .1 .1, w, stride-le (a .stride) (a .count) (s .pre .0 .2)),
+    )
 
--- all rows are read
-whole : (c : tie.After-elements2) → let s = c .before .before .before .before .before .before in
-    _≡_ {A = List ℤ} (c .before .read-rest .last .1 .1 .1 .1 .1 .1 .0) (read s (s .args .rows))
-unfolding rowsRead
-whole c =
+-- some rows more are read, no more than are left
+some : (c : tie.After-elements Inv-loop μ-loop) → let l = c .before .before .before .before .before in
+    (1 ≤ c .before .read-some .result) × (l .loop .r + c .before .read-some .result ≤ l .before .before .args .rows)
+some c =
     let f = c .before in
-    let j = f .before .before .before in
-    let s = j .before .before in
+    let l = f .before .before .before .before in
+    (f .read-some .ensures .1 .0 .0, omega (arith, f .read-some .ensures .1 .0 .1, l .loop .inv .0))
+
+loop-holds : tie.Need-loop-holds Inv-loop μ-loop
+loop-holds c = let s = c .before in
     let a = s .args in
-    let p = parts s in
-    let sum : done s + (a .rows - done s) ≡ a .rows = omega (arith, p .le) in
-    rows-more (a .e) (a .buffer .now) (a .at) (a .stride) (a .count) (done s) (a .rows - done s) (a .from) (a .plane) (a .at + done s * a .e) (a .from + done s * a .plane) (done s * a .e) (a .elements .now)
-    (s .pre .0 .5) refl refl refl (above j) (f .read-rest .ensures)
-    ∙ ap (read s) sum
+    (omega arith, refl, read-start (a .e) (a .buffer .now) (a .at) (a .stride) (a .count) (a .from) (a .plane) (s .pre .0 .5) (a .elements .now))
 
-mul-read-rest : tie.Need-mul-read-rest
-mul-read-rest c = let s = c .before .before .before in omega (arith, s .pre .0 .4, begins s, parts s .all-bytes)
+mul-read-some : tie.Need-mul-read-some Inv-loop μ-loop
+mul-read-some c = omega (arith, room c)
 
-cast-read-rest : tie.Need-cast-read-rest
-cast-read-rest c = let s = c .before .before .before in omega (arith, s .pre .0 .4, begins s, parts s .all-bytes)
+cast-read-some : tie.Need-cast-read-some Inv-loop μ-loop
+cast-read-some c = omega (arith, room c)
 
-add-read-rest : tie.Need-add-read-rest
-add-read-rest c = let s = c .before .before .before in omega (arith, s .pre .0 .4, begins s, parts s .all-bytes)
+add-read-some : tie.Need-add-read-some Inv-loop μ-loop
+add-read-some c = omega (arith, room c)
 
-sub-read-rest : tie.Need-sub-read-rest
-sub-read-rest c = search needs
+sub-read-some : tie.Need-sub-read-some Inv-loop μ-loop
+sub-read-some c = omega arith
 
-cast-read-rest-2 : tie.Need-cast-read-rest-2
-cast-read-rest-2 c = search needs
+cast-read-some-2 : tie.Need-cast-read-some-2 Inv-loop μ-loop
+cast-read-some-2 c = omega arith
 
-mul-read-rest-2 : tie.Need-mul-read-rest-2
-mul-read-rest-2 c = omega (arith, some (c .before))
+mul-read-some-2 : tie.Need-mul-read-some-2 Inv-loop μ-loop
+mul-read-some-2 c = omega (arith, room (c .before .before))
 
-add-read-rest-2 : tie.Need-add-read-rest-2
-add-read-rest-2 c = omega (arith, some (c .before))
+add-read-some-2 : tie.Need-add-read-some-2 Inv-loop μ-loop
+add-read-some-2 c = omega (arith, room (c .before .before))
 
-read-rest-requires : tie.Need-read-rest-requires
-read-rest-requires c κs = let j = c .before .before in
-    let s = j .before .before in
-    let p = parts s in
-    ((s .pre .0 .0, s .pre .0 .1, s .pre .0 .2, omega (arith, s .pre .0 .4), s .pre .0 .5), (omega (arith, s .pre .1 .0, p .all-planes, long j), omega (arith, s .pre .1 .1, p .all-bytes)))
+read-some-requires : tie.Need-read-some-requires Inv-loop μ-loop
+read-some-requires c κs = let i = c .before .before in
+    let l = i .before in
+    let s = l .before .before in
+    ((s .pre .0 .0, s .pre .0 .1, omega (arith, i .loop-test .taken), s .pre .0 .3, l .loop .inv .1, s .pre .0 .5), (omega (arith, s .pre .1 .0, left l, long l), omega (arith, s .pre .1 .1, left l)))
 
-same-length : tie.Need-same-length
-same-length c = let s = c .before .before .before .before .before .before in ap length (whole c) ∙ read-length s (s .args .rows)
+add-r : tie.Need-add-r Inv-loop μ-loop
+add-r c = omega (arith, some c)
 
-returns : tie.Need-returns
-unfolding rowsRead
-returns c = whole c
+loop-less : tie.Need-loop-less Inv-loop μ-loop
+loop-less c = omega (arith, some c, c .before .before .before .before .loop-test .taken)
 
-same-length-2 : tie.Need-same-length-2
-same-length-2 c = long (c .before)
+loop-again : tie.Need-loop-again Inv-loop μ-loop
+loop-again c = let f = c .before in
+    let l = f .before .before .before .before in
+    let s = l .before .before in
+    let a = s .args in (
+      omega (arith, some c),
+      f .read-some .ensures .0,
+      read-rows (a .e) (a .buffer .now) (a .at) (a .stride) (a .count) (a .from) (a .plane) (s .pre .0 .5) (l .loop .r) (f .read-some .result) (a .elements .now) (l .loop .inv .2) (f .read-some .ensures .1 .1),
+    )
 
-returns-2 : tie.Need-returns-2
-unfolding rowsRead
-returns-2 c = let s = c .before .before .before in
-    let all : done s ≡ s .args .rows = omega (arith, parts s .le) in
-    above (c .before) ∙ ap (read s) all
+same-length : tie.Need-same-length Inv-loop μ-loop
+same-length c = long (c .before)
+
+returns : tie.Need-returns Inv-loop μ-loop
+returns c = let l = c .before in
+    let a = l .before .before .args in
+    let all : l .loop .r ≡ a .rows = omega (arith, l .loop .inv .0, c .loop-test .left) in
+    l .loop .inv .2 ∙ ap (λ (n : ℕ). rowsRead (a .e) (a .buffer .now) (a .at) (a .stride) n (a .count) (a .from) (a .plane) (a .elements .now)) all
 
 pub read-rows-spec : {M : Type 1} → statement M
 read-rows-spec =
     tie.close
     (tie.spec
-    sub-few
-    mul-few
-    div-bands
-    mul-done
-    read-bands-requires
-    mul-read-rest
-    cast-read-rest
-    add-read-rest
-    sub-read-rest
-    cast-read-rest-2
-    mul-read-rest-2
-    add-read-rest-2
-    read-rest-requires
+    Inv-loop
+    μ-loop
+    loop-holds
+    mul-read-some
+    cast-read-some
+    add-read-some
+    sub-read-some
+    cast-read-some-2
+    mul-read-some-2
+    add-read-some-2
+    read-some-requires
+    add-r
+    loop-less
+    loop-again
     same-length
-    returns
-    same-length-2
-    returns-2)
+    returns)

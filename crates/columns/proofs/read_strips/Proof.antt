@@ -1,7 +1,7 @@
 -- `columns::read_strips` meets its contract. The loop's invariant: the first `done` columns are read. Assumes nothing.
 use Prim.Native.Nat.{ℕ, _+_, _-_, _*_, _<_, _≤_}
 use native.Mathlib.Omega.{arith}
-use mathlib.Core.Path.{_≡_, refl, ap, _∙_}
+use mathlib.Core.Path.{_≡_, ap, _∙_}
 use mathlib.Core.List.{List}
 use lib.ListN.{length}
 use lib.IntN.{ℤ}
@@ -10,9 +10,6 @@ use Rattle.columns.proofs.UnitLaws.{stride-le}
 use Rattle.columns.proofs.StripLaws.{strip-room, read-length, read-none, read-strip}
 use Rattle.columns.proofs.read_strips.Statement.{statement}
 use Rattle.columns.proofs.read_strips.Tie as tie
-use Rattle.columns.proofs.read_strips.Reads as reads
-use Rattle.columns.proofs.read_strips.Lts as lts
-use Rattle.columns.proofs.read_rows.Reads as read-rows-reads
 
 abbrev Inv-loop : tie.InvT-loop
 Inv-loop e buffer at stride rows count elements₀ from plane done₀ elements done =

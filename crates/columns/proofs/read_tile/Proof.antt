@@ -1,20 +1,13 @@
 -- `columns::read_tile` meets its contract. The loop's invariant: the first 4 i units of the tile are those of the columns. Assumes nothing.
-use Prim.Native.Nat.{ℕ, suc, _+_, _-_, _*_, _/_, _%_, _<_, _≤_}
+use Prim.Native.Nat.{ℕ, _+_, _-_, _*_, _/_, _%_, _<_, _≤_}
 use native.Mathlib.Omega.{arith}
-use mathlib.Core.Path.{_≡_, refl, sym, ap, subst, _∙_}
+use mathlib.Core.Path.{_≡_, sym, ap, subst, _∙_}
 use mathlib.Core.List.{List}
-use lib.ListN.{length, getD, set, length-set}
-use lib.IntN.{ℤ, pos}
-use borrow.Author.Needs.{sfits-of}
-use mir.Facts.{toZ-ofZ}
+use lib.ListN.{length, getD}
 use Rattle.columns.specs.Columns.{UnitIs}
 use Rattle.columns.proofs.UnitLaws.{column-room, tile-more, tileSet-length}
 use Rattle.columns.proofs.read_tile.Statement.{statement}
 use Rattle.columns.proofs.read_tile.Tie as tie
-use Rattle.columns.proofs.read_tile.Reads as reads
-use Rattle.columns.proofs.read_tile.Lts as lts
-use Rattle.columns.proofs.set_units.Reads as set-units-reads
-use Rattle.columns.proofs.unit_at.Reads as unit-at-reads
 
 abbrev Inv-loop : tie.InvT-loop
 Inv-loop buffer at stride count tile₀ i₀ tile i =

@@ -1,20 +1,11 @@
 -- `columns::split` meets its contract: the rows of unit after unit. Assumes nothing.
-use Prim.Native.Nat.{ℕ, suc, _+_, _-_, _*_, _/_, _%_, _<_, _≤_}
+use Prim.Native.Nat.{_+_, _-_, _*_}
 use native.Mathlib.Omega.{arith}
-use mathlib.Core.Path.{_≡_, refl, sym, ap, _∙_}
-use mathlib.Core.List.{List}
-use lib.ListN.{length, getD, set, length-set}
-use lib.IntN.{ℤ, pos}
-use borrow.Author.Needs.{needs, sfits-of}
-use mir.Facts.{toZ-ofZ}
-use Rattle.columns.specs.Columns.{columns, tileElement}
+use borrow.Author.Needs.{needs}
 use Rattle.columns.proofs.UnitLaws.{plane-le}
 use Rattle.columns.proofs.ReadLaws.{split-start, split-more}
 use Rattle.columns.proofs.split.Statement.{statement}
 use Rattle.columns.proofs.split.Tie as tie
-use Rattle.columns.proofs.split.Reads as reads
-use Rattle.columns.proofs.split.Lts as lts
-use Rattle.columns.proofs.split_unit.Reads as split-unit-reads
 
 sub-step : tie.Need-sub-step
 sub-step c = search needs

@@ -1,10 +1,8 @@
 -- `columns::split_one` meets its contract: the elements have one byte or two. Assumes nothing.
-use Prim.Native.Nat.{ℕ, suc, _+_, _-_, _*_, _/_, _%_, _<_, _≤_}
+use Prim.Native.Nat.{ℕ, _-_, _*_}
 use native.Mathlib.Omega.{arith}
-use mathlib.Core.Path.{_≡_, refl, sym, ap, _∙_}
-use mathlib.Core.List.{List}
-use lib.ListN.{length, getD, set, length-set}
-use lib.IntN.{ℤ, pos}
+use mathlib.Core.Path.{_≡_, sym, ap, _∙_}
+use lib.ListN.{length-set}
 use borrow.Author.Needs.{needs, sfits-of}
 use mir.Facts.{toZ-ofZ}
 use Rattle.columns.specs.Columns.{columns, unitElement}
@@ -12,10 +10,6 @@ use Rattle.columns.proofs.UnitLaws.{plane-le}
 use Rattle.columns.proofs.ReadLaws.{unit-one-low, unit-one-high, unit-two-all, one-row, two-rows}
 use Rattle.columns.proofs.split_one.Statement.{statement}
 use Rattle.columns.proofs.split_one.Tie as tie
-use Rattle.columns.proofs.split_one.Reads as reads
-use Rattle.columns.proofs.split_one.Lts as lts
-use Rattle.elements.proofs.from_byte.Reads as from-byte-reads
-use Rattle.elements.proofs.from_bytes.Reads as from-bytes-reads
 
 two-planes : (c : tie.Then1) → (3 - c .before .args .e) * c .before .args .plane ≡ 2 * c .before .args .plane
 two-planes c = ap (λ (x : ℕ). (3 - x) * c .before .args .plane) (c .if1 .taken)

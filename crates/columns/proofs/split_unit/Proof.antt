@@ -1,21 +1,15 @@
 -- `columns::split_unit` meets its contract. The loop's invariant: the unit of the first i columns is split. Assumes nothing.
-use Prim.Native.Nat.{ℕ, suc, _+_, _-_, _*_, _/_, _%_, _<_, _≤_}
+use Prim.Native.Nat.{ℕ, _+_, _-_, _*_, _≤_}
 use native.Mathlib.Omega.{arith}
-use mathlib.Core.Path.{_≡_, refl, sym, ap, _∙_}
-use mathlib.Core.List.{List}
-use lib.ListN.{length, getD, set, length-set}
-use lib.IntN.{ℤ, pos}
-use borrow.Author.Needs.{sfits-of}
-use mir.Facts.{toZ-ofZ}
+use mathlib.Core.Path.{_≡_, refl, ap, _∙_}
+use lib.ListN.{length, getD}
+use lib.IntN.{pos}
 use Rattle.columns.specs.Columns.{columns, unitElement, unitRow}
 use Rattle.columns.proofs.ColumnLaws.{columns-empty, columns-length}
 use Rattle.columns.proofs.UnitLaws.{under-step, plane-le}
 use Rattle.columns.proofs.ReadLaws.{unit-row-at}
 use Rattle.columns.proofs.split_unit.Statement.{statement}
 use Rattle.columns.proofs.split_unit.Tie as tie
-use Rattle.columns.proofs.split_unit.Reads as reads
-use Rattle.columns.proofs.split_unit.Lts as lts
-use Rattle.columns.proofs.split_one.Reads as split-one-reads
 
 abbrev Inv-loop : tie.InvT-loop
 Inv-loop e tile j count elements₀ from plane i₀ elements i =

@@ -1,21 +1,16 @@
 -- `columns::unit` meets its contract, by what `word` ensures of its elements. Assumes nothing.
-use Prim.Native.Nat.{ℕ, _+_, _-_, _*_, _%_, _/_, _<_, _≤_}
+use Prim.Native.Nat.{ℕ, _+_, _-_, _*_, _%_, _≤_}
 use native.Mathlib.Omega.{arith}
 use mathlib.Core.Path.{_≡_, sym, ap, _∙_}
-use mathlib.Core.Logic.{⊎-elim}
-use lib.ListN.{length, getD}
-use lib.IntN.{ℤ, pos}
+use lib.IntN.{ℤ}
 use borrow.Author.Needs.{needs, sfits-of}
 use mir.Facts.{toZ-ofZ}
 use Rattle.elements.specs.Bytes.{byteOf}
 use Rattle.elements.proofs.ByteLaws.{byteOf-lt}
 use Rattle.columns.specs.Columns.{listed, columnUnit}
-use Rattle.columns.proofs.UnitLaws.{unit-one, unit-two, plane-le, pair-rows}
+use Rattle.columns.proofs.UnitLaws.{unit-one, unit-two, plane-le}
 use Rattle.columns.proofs.unit.Statement.{statement}
 use Rattle.columns.proofs.unit.Tie as tie
-use Rattle.columns.proofs.unit.Reads as reads
-use Rattle.columns.proofs.unit.Lts as lts
-use Rattle.elements.proofs.word.Reads as word-reads
 
 plane-in : (s : tie.Start) → s .args .at + s .args .plane + 0 ≤ s .args .at + (3 - s .args .e) * s .args .plane
 plane-in s = omega (arith, plane-le (s .args .e) (s .args .plane) (s .pre .0) (s .pre .1))

@@ -1,18 +1,12 @@
 -- `columns::write` meets its contract: a block that fits is written in strips. Assumes nothing.
-use Prim.Native.Nat.{ℕ, _*_, _≤_}
 use native.Mathlib.Omega.{arith}
-use mathlib.Core.Path.{_≡_, sym, _∙_}
-use mathlib.Core.Bool.{true}
+use mathlib.Core.Path.{sym, _∙_}
 use lib.ListN.{length}
 use Rattle.columns.specs.Blocks.{blockFits}
 use Rattle.columns.proofs.BlockLaws.{BlockFits, fitting-of, rows-end, columns-end, stride-some, block-written, block-kept}
 use borrow.Author.Needs.{needs}
 use Rattle.columns.proofs.write.Statement.{statement}
 use Rattle.columns.proofs.write.Tie as tie
-use Rattle.columns.proofs.write.Reads as reads
-use Rattle.columns.proofs.write.Lts as lts
-use Rattle.columns.proofs.fits.Reads as fits-reads
-use Rattle.columns.proofs.write_strips.Reads as write-strips-reads
 
 fit : (c : tie.Then1) → let a = c .before .before .before .args in BlockFits (a .block) (length (a .elements .now)) (length (a .buffer .now))
 fit c = fitting-of (sym (c .before .fits2 .ensures) ∙ c .if1 .taken)

@@ -1,11 +1,9 @@
 -- `columns::write_byte` meets its contract. The loop's invariant: the byte of the first i columns is written. Assumes nothing.
-use Prim.Native.Nat.{ℕ, suc, _+_, _-_, _*_, _/_, _%_, _<_, _≤_}
+use Prim.Native.Nat.{ℕ, _+_, _-_, _*_, _≤_}
 use native.Mathlib.Omega.{arith}
-use native.Mathlib.Nat.{mul-suc, mul-le-mul-left}
-use mathlib.Core.Path.{_≡_, refl, sym, ap, _∙_}
-use mathlib.Core.List.{List}
-use lib.ListN.{length, getD, length-set}
-use lib.IntN.{ℤ, pos}
+use mathlib.Core.Path.{_≡_, sym, ap, _∙_}
+use lib.ListN.{length}
+use lib.IntN.{ℤ}
 use borrow.Author.Needs.{needs, sfits-of}
 use mir.Facts.{toZ-ofZ}
 use Rattle.elements.specs.Bytes.{byteOf}
@@ -14,9 +12,6 @@ use Rattle.columns.proofs.ColumnLaws.{columns-none, columns-length}
 use Rattle.columns.proofs.UnitLaws.{columns-step, byte-bytes, first-byte, column-room}
 use Rattle.columns.proofs.write_byte.Statement.{statement}
 use Rattle.columns.proofs.write_byte.Tie as tie
-use Rattle.columns.proofs.write_byte.Reads as reads
-use Rattle.columns.proofs.write_byte.Lts as lts
-use Rattle.elements.proofs.low_byte.Reads as low-byte-reads
 
 abbrev Inv-loop : tie.InvT-loop
 Inv-loop elements from count buffer₀ at stride i₀ buffer i = (i ≤ count) × (buffer ≡ columns (columnByte 1 (listed elements) from 0) 1 i at stride buffer₀)

@@ -1,18 +1,14 @@
 -- `columns::write_strips` meets its contract. The loop's invariant: the first `done` columns are written. Assumes nothing.
 use Prim.Native.Nat.{ℕ, _+_, _-_, _*_, _<_, _≤_}
 use native.Mathlib.Omega.{arith}
-use mathlib.Core.Path.{_≡_, refl, ap, _∙_}
+use mathlib.Core.Path.{_≡_, ap, _∙_}
 use mathlib.Core.List.{List}
 use lib.ListN.{length}
-use lib.IntN.{ℤ}
 use Rattle.columns.specs.Columns.{rowsWritten, listed}
 use Rattle.columns.proofs.UnitLaws.{stride-le}
 use Rattle.columns.proofs.StripLaws.{strip-room, written-length, written-none, written-strip}
 use Rattle.columns.proofs.write_strips.Statement.{statement}
 use Rattle.columns.proofs.write_strips.Tie as tie
-use Rattle.columns.proofs.write_strips.Reads as reads
-use Rattle.columns.proofs.write_strips.Lts as lts
-use Rattle.columns.proofs.write_rows.Reads as write-rows-reads
 
 abbrev Inv-loop : tie.InvT-loop
 Inv-loop e elements from plane rows count buffer₀ at stride source₀ done₀ buffer source done =

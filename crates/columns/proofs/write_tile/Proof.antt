@@ -1,21 +1,13 @@
 -- `columns::write_tile` meets its contract. The loop's invariant: the units of the first i columns are written. Assumes nothing.
-use Prim.Native.Nat.{ℕ, suc, _+_, _-_, _*_, _/_, _%_, _<_, _≤_}
+use Prim.Native.Nat.{ℕ, _+_, _-_, _*_, _≤_}
 use native.Mathlib.Omega.{arith}
-use native.Mathlib.Nat.{mul-suc, mul-le-mul-left}
-use mathlib.Core.Path.{_≡_, refl, sym, ap, _∙_}
-use mathlib.Core.List.{List}
-use lib.ListN.{length, getD, length-set}
-use lib.IntN.{ℤ, pos}
-use borrow.Author.Needs.{needs, sfits-of}
-use mir.Facts.{toZ-ofZ}
+use mathlib.Core.Path.{_≡_, refl, ap, _∙_}
+use lib.ListN.{length}
 use Rattle.columns.specs.Columns.{columns, tileByte}
 use Rattle.columns.proofs.ColumnLaws.{columns-none, columns-length}
 use Rattle.columns.proofs.UnitLaws.{columns-step, tile-bytes, column-room}
 use Rattle.columns.proofs.write_tile.Statement.{statement}
 use Rattle.columns.proofs.write_tile.Tie as tie
-use Rattle.columns.proofs.write_tile.Reads as reads
-use Rattle.columns.proofs.write_tile.Lts as lts
-use Rattle.columns.proofs.write_units.Reads as write-units-reads
 
 abbrev Inv-loop : tie.InvT-loop
 Inv-loop tile count buffer₀ at stride i₀ buffer i = (i ≤ count) × (buffer ≡ columns (tileByte tile) 8 i at stride buffer₀)

@@ -1,21 +1,13 @@
 -- `columns::write_unit` meets its contract. The loop's invariant: the unit of the first i columns is written. Assumes nothing.
-use Prim.Native.Nat.{ℕ, suc, _+_, _-_, _*_, _/_, _%_, _<_, _≤_}
+use Prim.Native.Nat.{ℕ, _+_, _-_, _*_, _<_, _≤_}
 use native.Mathlib.Omega.{arith}
-use native.Mathlib.Nat.{mul-suc, mul-le-mul-left}
-use mathlib.Core.Path.{_≡_, refl, sym, ap, _∙_}
-use mathlib.Core.List.{List}
-use lib.ListN.{length, getD, length-set}
-use lib.IntN.{ℤ, pos}
-use borrow.Author.Needs.{needs, sfits-of}
-use mir.Facts.{toZ-ofZ}
-use Rattle.columns.specs.Columns.{columns, columnByte, columnUnit, listed}
+use mathlib.Core.Path.{_≡_, ap, _∙_}
+use lib.ListN.{length, length-set}
+use Rattle.columns.specs.Columns.{columns, columnByte, listed}
 use Rattle.columns.proofs.ColumnLaws.{columns-none, columns-length}
 use Rattle.columns.proofs.UnitLaws.{columns-step, unit-bytes, columnByte-lt, plane-le, unit-first, column-room}
 use Rattle.columns.proofs.write_unit.Statement.{statement}
 use Rattle.columns.proofs.write_unit.Tie as tie
-use Rattle.columns.proofs.write_unit.Reads as reads
-use Rattle.columns.proofs.write_unit.Lts as lts
-use Rattle.columns.proofs.unit.Reads as unit-reads
 
 abbrev Inv-loop : tie.InvT-loop
 Inv-loop e elements from plane count buffer₀ at stride i₀ buffer i = (i ≤ count) × (buffer ≡ columns (columnByte e (listed elements) from plane) 2 i at stride buffer₀)

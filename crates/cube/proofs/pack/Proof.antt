@@ -1,5 +1,5 @@
 -- `cube::pack` meets its contract: it writes the box of the whole cube, and clears the padding where there is any. Assumes nothing.
-use Prim.Native.Nat.{ℕ, _*_, _%_, _<_, _≤_}
+use Prim.Native.Nat.{ℕ, _*_, _%_, _≤_}
 use native.Mathlib.Omega.{arith}
 use native.Mathlib.Nat.{mul-le-mul}
 use mathlib.Core.Path.{_≡_, refl, sym, ap, subst⁻¹, _∙_}

@@ -3,13 +3,10 @@ use Prim.Native.Nat.{ℕ, _+_, _-_, _*_, _/_, _%_, _<_, _≤_}
 use native.Mathlib.Omega.{arith}
 use native.Mathlib.Nat.{mod-lt, mul-le-mul-right}
 use mathlib.Core.Path.{_≡_, ap, _∙_}
-use Rattle.cube.specs.Steps.{AtomEnd}
 use Rattle.cube.proofs.RowLaws.{Next, atom-next, atom-channels}
 use borrow.Author.Needs.{needs}
 use Rattle.cube.proofs.place.atom_end.Statement.{statement}
 use Rattle.cube.proofs.place.atom_end.Tie as tie
-use Rattle.cube.proofs.place.atom_end.Reads as reads
-use Rattle.cube.proofs.place.atom_end.Lts as lts
 
 next : (s : tie.Start) → let a = s .args in Next (a .e) (a .channel + a .n) (a .channel + a .n + 32 / a .e - (a .channel + a .n) % (32 / a .e))
 next s = atom-next (s .args .e) (s .args .channel + s .args .n) (s .pre .0) (s .pre .1)

@@ -1,17 +1,11 @@
 -- `cube::place::row` meets its contract: its numbers are the definition's. Assumes nothing.
-use Prim.Native.Nat.{ℕ, _*_, _<_, _≤_}
+use Prim.Native.Nat.{_≤_}
 use native.Mathlib.Omega.{arith}
 use native.Mathlib.Nat.{mul-le-mul}
-use mathlib.Core.Path.{_≡_}
 use Rattle.layout.proofs.CallLaws.{box-counts, box-layout-taken, box-area-taken}
 use borrow.Author.Needs.{needs}
 use Rattle.cube.proofs.place.row.Statement.{statement}
 use Rattle.cube.proofs.place.row.Tie as tie
-use Rattle.cube.proofs.place.row.Reads as reads
-use Rattle.cube.proofs.place.row.Lts as lts
-use Rattle.cube.proofs.place.run_index.Reads as run-index-reads
-use Rattle.cube.proofs.place.run_position.Reads as run-position-reads
-use Rattle.elements.proofs.element_bytes.Reads as element-bytes-reads
 
 counts : (s : tie.Start) → (s .args .area .channels ≤ 8192) × (s .args .area .rows ≤ 8192) × (s .args .area .columns ≤ 8192)
 counts s = let a = s .args in box-counts (a .layout) (a .area) (box-layout-taken (a .layout) (a .area) (s .pre .0)) (box-area-taken (a .layout) (a .area) (s .pre .0))

@@ -1,10 +1,10 @@
 -- `cube::read::all` meets its contract. The outer loop's invariant: the elements of the channels before n are read; the inner one's: since it began
 -- the elements came toward the box's, and those of the rows before r are read. Assumes nothing.
-use Prim.Native.Nat.{ℕ, _+_, _-_, _*_, _%_, _<_, _≤_}
+use Prim.Native.Nat.{ℕ, _+_, _-_, _≤_}
 use native.Mathlib.Omega.{arith}
-use mathlib.Core.Path.{_≡_, refl, sym, ap, subst, subst⁻¹, _∙_}
+use mathlib.Core.Path.{_≡_, sym, ap, subst, subst⁻¹, _∙_}
 use mathlib.Core.List.{List}
-use lib.ListN.{length, getD}
+use lib.ListN.{length}
 use lib.IntN.{ℤ, pos}
 use Rattle.columns.specs.declared.ColumnBlock.{ColumnBlock}
 use Rattle.columns.specs.Blocks.{blockRead}
@@ -14,18 +14,12 @@ use Rattle.layout.specs.Geometry.{sizeOf}
 use Rattle.layout.specs.Boxes.{boxCount}
 use Rattle.layout.specs.Contents.{boxElements}
 use Rattle.layout.proofs.CallLaws.{Admitted, admitted, admit-front}
-use Rattle.cube.specs.Steps.{AtomEnd, rowBlock, runIndex}
+use Rattle.cube.specs.Steps.{AtomEnd, rowBlock}
 use Rattle.cube.proofs.NestLaws.{Before, Rows, before-none, rows-none, rows-more, before-more}
 use Rattle.cube.proofs.ReadLaws.{RowRead, read-keep, read-toward, read-reached, read-only}
 use borrow.Author.Needs.{needs}
 use Rattle.cube.proofs.read.all.Statement.{statement}
 use Rattle.cube.proofs.read.all.Tie as tie
-use Rattle.cube.proofs.read.all.Reads as reads
-use Rattle.cube.proofs.read.all.Lts as lts
-use Rattle.columns.proofs.read.Reads as read-reads
-use Rattle.cube.proofs.place.atom_end.Reads as atom-end-reads
-use Rattle.cube.proofs.place.row.Reads as row-reads
-use Rattle.elements.proofs.element_bytes.Reads as element-bytes-reads
 
 abbrev Inv-loop2 : tie.InvT-loop2
 Inv-loop2 layout area buffer elements₀ e first channels rows n m r₀ elements r =

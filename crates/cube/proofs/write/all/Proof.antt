@@ -3,10 +3,10 @@
 use Prim.Native.Nat.{ℕ, _+_, _-_, _*_, _%_, _<_, _≤_}
 use native.Mathlib.Omega.{arith}
 use mathlib.Core.Path.{_≡_, refl, sym, ap, subst, subst⁻¹, _∙_}
-use mathlib.Core.Bool.{Bool, true, _&&_}
+use mathlib.Core.Bool.{true, _&&_}
 use mathlib.Core.List.{List}
 use lib.Dec.{eqb}
-use lib.ListN.{length, getD}
+use lib.ListN.{length}
 use Rattle.columns.specs.declared.ColumnBlock.{ColumnBlock}
 use Rattle.elements.proofs.ByteLaws.{elementBytes-pos, elementBytes-le}
 use Rattle.elements.proofs.Toward.{Toward, toward-refl, toward-trans}
@@ -20,12 +20,6 @@ use Rattle.cube.proofs.WriteLaws.{RowDone, row-done}
 use borrow.Author.Needs.{needs}
 use Rattle.cube.proofs.write.all.Statement.{statement}
 use Rattle.cube.proofs.write.all.Tie as tie
-use Rattle.cube.proofs.write.all.Reads as reads
-use Rattle.cube.proofs.write.all.Lts as lts
-use Rattle.cube.proofs.place.atom_end.Reads as atom-end-reads
-use Rattle.cube.proofs.place.row.Reads as place-row-reads
-use Rattle.cube.proofs.write.row.Reads as write-row-reads
-use Rattle.elements.proofs.element_bytes.Reads as element-bytes-reads
 
 abbrev Inv-loop2 : tie.InvT-loop2
 Inv-loop2 layout area pad elements buffer₀ e first channels rows n m r₀ buffer r =

@@ -1,10 +1,9 @@
 -- `cube::write::row` meets its contract: what it clears and writes is the definition's. Assumes nothing.
-use Prim.Native.Nat.{ℕ, _*_, _≤_}
+use Prim.Native.Nat.{ℕ, _*_}
 use mathlib.Core.Path.{_≡_, refl, sym, ap, _∙_}
 use mathlib.Core.Bool.{Bool, true, false, cond}
 use mathlib.Core.Logic.{⊎-elim}
 use mathlib.Core.List.{List}
-use lib.IntN.{ℤ}
 use lib.ListN.{length}
 use Rattle.columns.specs.declared.ColumnBlock.{ColumnBlock}
 use Rattle.columns.specs.Blocks.{blockWritten, cleared}
@@ -14,10 +13,6 @@ use Rattle.cube.specs.Steps.{rowWritten}
 use borrow.Author.Needs.{needs}
 use Rattle.cube.proofs.write.row.Statement.{statement}
 use Rattle.cube.proofs.write.row.Tie as tie
-use Rattle.cube.proofs.write.row.Reads as reads
-use Rattle.cube.proofs.write.row.Lts as lts
-use Rattle.columns.proofs.clear.Reads as clear-reads
-use Rattle.columns.proofs.write.Reads as write-reads
 
 -- the atoms cleared, or not
 came : (c : tie.Joined1) → let a = c .before .before .args in c .if1 .buffer ≡ cond (a .clear) (cleared (a .block .at) (32 * a .block .count) (a .buffer .now)) (a .buffer .now)
