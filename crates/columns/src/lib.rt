@@ -365,7 +365,7 @@ fn read_rows(
     let mut tile = [0u16; 256];
     let mut r: u32 = 0;
     while r < rows {
-        let k = read_some(
+        let got = read_some(
             e,
             buffer,
             at + (r * e) as usize,
@@ -377,7 +377,7 @@ fn read_rows(
             from + r as usize * plane,
             plane,
         );
-        r += k;
+        r += got;
     }
 }
 
@@ -512,6 +512,8 @@ fn fits(
 pub fn write(block: ColumnBlock, elements: &[i16], buffer: &mut [u8])
     ensures { λ _. ⌜ now (buffer .exit) ≡ blockWritten block (now (elements .entry)) (now (buffer .entry)) ⌝ }
 {
+    let given = elements.len();
+    let len = buffer.len();
     let fit = fits(
         block.size,
         block.rows,
@@ -520,8 +522,8 @@ pub fn write(block: ColumnBlock, elements: &[i16], buffer: &mut [u8])
         block.plane,
         block.at,
         block.stride,
-        elements.len(),
-        buffer.len(),
+        given,
+        len,
     );
     if fit {
         write_strips(

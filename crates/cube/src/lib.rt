@@ -46,13 +46,13 @@ pub fn pack(layout: CubeLayout, elements: &[i16], buffer: &mut [u8]) -> Answer
     ensures answered { λ r. ⌜ r ≡ packAnswer layout (now (elements .entry)) (length (now (buffer .entry))) ⌝ }
     ensures left { λ r. ⌜ now (buffer .exit) ≡ packBuffer layout (now (elements .entry)) (now (buffer .entry)) ⌝ }
 {
-    let area = whole(layout);
-    let a = judge(layout, area, elements, buffer.len());
+    let cube = whole(layout);
+    let a = judge(layout, cube, elements, buffer.len());
     let Answer::Accepted = a else {
         return a;
     };
     let pad = layout.channels * elements::element_bytes(layout.precision) % 32 != 0;
-    write::all(layout, area, pad, elements, buffer);
+    write::all(layout, cube, pad, elements, buffer);
     Answer::Accepted
 }
 
@@ -61,12 +61,12 @@ pub fn unpack(layout: CubeLayout, buffer: &[u8], elements: &mut [i16]) -> Answer
     ensures answered { λ r. ⌜ r ≡ unpackAnswer layout (length (now (elements .entry))) (length (now (buffer .entry))) ⌝ }
     ensures left { λ r. ⌜ now (elements .exit) ≡ unpackElements layout (now (buffer .entry)) (now (elements .entry)) ⌝ }
 {
-    let area = whole(layout);
-    let a = layout::admit(layout, area, elements.len(), buffer.len());
+    let cube = whole(layout);
+    let a = layout::admit(layout, cube, elements.len(), buffer.len());
     let Answer::Accepted = a else {
         return a;
     };
-    read::all(layout, area, buffer, elements);
+    read::all(layout, cube, buffer, elements);
     Answer::Accepted
 }
 
