@@ -1,4 +1,4 @@
--- Laws of the definitions of specs/, for the crates above; Places states the claims. The last eight serve the loops alone.
+-- Laws of the definitions of specs/, for the crates above; Places states the claims. The last seven serve the walk alone.
 --     Taken           what accepted sizes tell
 --     RuleLaws        checks 1, 2, 6, 5 as the code goes through them
 --     CallLaws        what an accepted call tells, and what each call answers and leaves
@@ -11,12 +11,11 @@
 --     RoundTrip       what is packed is read back
 --     Places          the statements about numbers, places, fill and the round trip
 --     BoundLaws       counts within 64 bits
---     StepLaws        steps made one after another
---     StoreLaws, ReadLaws     elements stored and read in a row
---     RunLaws         a loop along a run
---     TileLaws        tiles and their runs
---     NextLaws        the tile behind a tile
---     ContentLaws     what the loops leave is what the definitions say
+--     RunLaws         runs, and the run behind a run
+--     CellLaws        what the columns of a run hold
+--     BlockLaws       ..as the code computes them
+--     WalkLaws        the walk over all runs, toward a goal list
+--     WriteLaws, ReadLaws     what writing and reading all runs leave
 pub mod Taken
 pub mod RuleLaws
 pub mod CallLaws
@@ -29,10 +28,9 @@ pub mod PositionLaws
 pub mod RoundTrip
 pub mod Places
 pub mod BoundLaws
-pub mod StepLaws
-pub mod StoreLaws
-pub mod ReadLaws
 pub mod RunLaws
-pub mod TileLaws
-pub mod NextLaws
-pub mod ContentLaws
+pub mod CellLaws
+pub mod BlockLaws
+pub mod WalkLaws
+pub mod WriteLaws
+pub mod ReadLaws

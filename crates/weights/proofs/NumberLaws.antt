@@ -1,11 +1,11 @@
 -- The numbering of the elements (specs/Geometry.antt). A number has five digits: group, block, pixel r·S + s, kernel in the group, channel in
 -- the block. The last group and the last block have fewer kernels and channels, but nothing comes after them, so that each digit is found by
 -- division. Once over the group size. Assumes nothing.
---     groupSize-pos, groupSize-int8, groupSize-other     kernels of a full group
+--     groupSize-pos, groupSize-le, groupSize-int8, groupSize-other     kernels of a full group
 --     Place                                             the digits are in range
 --     kernel-in, channel-in, kernel-below, channel-below     so are the kernel and the channel
 --     number-lt, rawAt-pixel                            the number is below the count, and leads to its raw index
-use Prim.Native.Nat.{ℕ, zero, suc, _+_, _*_, _/_, _<_}
+use Prim.Native.Nat.{ℕ, zero, suc, _+_, _*_, _/_, _≤_, _<_}
 use native.Mathlib.Nat.{div-add-mod', mul-le-mul-right, mul-le-mul-left}
 use native.Mathlib.Omega.{arith}
 use mathlib.Core.Path.{_≡_, refl, ap, _∙_}
@@ -18,6 +18,11 @@ pub groupSize-pos : (p : ℕ) → 0 < groupSize p
 unfolding groupSize
 groupSize-pos zero = omega arith
 groupSize-pos (suc p) = omega arith
+
+pub groupSize-le : (p : ℕ) → groupSize p ≤ 32
+unfolding groupSize
+groupSize-le zero = omega arith
+groupSize-le (suc p) = omega arith
 
 pub groupSize-int8 : (p : ℕ) → p ≡ 0 → groupSize p ≡ 32
 unfolding groupSize

@@ -1,70 +1,96 @@
--- Laws of elements read in a row (specs/Steps.antt): nothing yet, one more, and a row after a row; a run's row is the row of its numbers. By
--- the laws of steps. Assumes nothing.
---     runRead-none, runRead-next, runRead-length     a run
---     read-none, read-split, read-after, read-length     elements by number
---     runRead-read, read-run                         the one as the other
-use Prim.Native.Nat.{ℕ, _+_, _*_}
+-- What reading all runs leaves: the raw weights (specs/Contents.antt). Each run is a step toward them. Assumes nothing.
+--     Reading                              the walk that reads
+--     read-first, read-next, read-done     its start, a turn and its end
+use Prim.Native.Nat.{ℕ, _+_, _*_, _≤_, _<_}
 use native.Mathlib.Omega.{arith}
-use mathlib.Core.Path.{_≡_, sym, ap, _∙_}
+use mathlib.Core.Path.{_≡_, sym, ap, ap₂, _∙_, subst}
 use mathlib.Core.List.{List}
-use lib.ListN.{length, set, length-set}
-use lib.IntN.{ℤ}
+use lib.ListN.{length, getD}
+use lib.IntN.{ℤ, pos}
+use lib.Seq.{ext-getD}
 use Rattle.elements.specs.Bytes.{elementAt}
+use Rattle.elements.proofs.TabulateLaws.{length-tabulate, getD-tabulate}
+use Rattle.elements.proofs.Toward.{Toward, reached-kept}
+use Rattle.columns.specs.Blocks.{blockRead}
+use Rattle.columns.proofs.BlockLaws.{BlockFits}
+use Rattle.columns.proofs.TowardLaws.{block-read-toward, block-read-reached}
 use Rattle.weights.specs.declared.WeightLayout.{WeightLayout}
-use Rattle.weights.specs.Geometry.{sizeOf, rawAt}
-use Rattle.weights.specs.Steps.{steps, runRead, read, Run}
-use Rattle.weights.proofs.StepLaws.{steps-none, steps-next, steps-split, steps-same, steps-length}
-
-module _ (e : ℕ) (buffer : List ℕ) (at from width : ℕ) where
-  abbrev run-step : ℕ → List ℤ → List ℤ
-  run-step k l = set l (from + k * width) (elementAt e buffer (at + k * e))
-
-  pub runRead-none : (l : List ℤ) → runRead e buffer at from width 0 l ≡ l
-  unfolding runRead
-  runRead-none l = steps-none run-step 0 l
-
-  pub runRead-next : (n : ℕ) (l : List ℤ)
-      → set (runRead e buffer at from width n l) (from + n * width) (elementAt e buffer (at + n * e)) ≡ runRead e buffer at from width (n + 1) l
-  unfolding runRead
-  runRead-next n l =
-      let zeroth : n ≡ 0 + n = omega arith in
-      ap (λ (k : ℕ). run-step k (steps run-step 0 n l)) zeroth ∙ sym (steps-next run-step 0 n l)
-
-  pub runRead-length : (n : ℕ) (l : List ℤ) → length (runRead e buffer at from width n l) ≡ length l
-  unfolding runRead
-  runRead-length n l = steps-length run-step (λ k x. length-set x (from + k * width) (elementAt e buffer (at + k * e))) 0 n l
+use Rattle.weights.specs.declared.walk.Run.{Run}
+use Rattle.weights.specs.Geometry.{sizeOf, groupOf, elementCount, surfaceBytes, rawAt, numberAt}
+use Rattle.weights.specs.Contents.{unpacked}
+use Rattle.weights.specs.Steps.{pixelNumber, AtRun, NextRun, runColumns}
+use Rattle.weights.proofs.Taken.{Taken}
+use Rattle.weights.proofs.IndexLaws.{rawAt-lt, numberAt-lt, numberAt-rawAt, rawAt-numberAt}
+use Rattle.weights.proofs.SurfaceLaws.{surface-ge}
+use Rattle.weights.proofs.CellLaws.{Holds, run-holds, holds-fits, cell-number, cell-index}
+use Rattle.weights.proofs.WalkLaws.{RunHas, Walked, walked-first, walked-next, walked-all}
 
 module _ (q : WeightLayout) (buffer : List ℕ) where
-  abbrev number-step : ℕ → List ℤ → List ℤ
-  number-step k l = set l (rawAt q k) (elementAt (sizeOf q) buffer (k * sizeOf q))
+  -- the element with number i is read
+  abbrev Read : ℕ → List ℤ → Type 0
+  Read i l = getD l (rawAt q i) (pos 0) ≡ getD (unpacked q buffer) (rawAt q i) (pos 0)
 
-  pub read-none : (i : ℕ) (l : List ℤ) → read q buffer i 0 l ≡ l
-  unfolding read
-  read-none i l = steps-none number-step i l
+  -- the walk stands at run x
+  abbrev pub Reading : List ℤ → List ℤ → Run → Type 0
+  Reading before l x = Walked q (pos 0) (unpacked q buffer) Read before l x
 
-  pub read-split : (i n m : ℕ) (l : List ℤ) → read q buffer (i + n) m (read q buffer i n l) ≡ read q buffer i (n + m) l
-  unfolding read
-  read-split i n m l = steps-split number-step i n m l
+  read-kept : (l₁ l₂ : List ℤ) → Toward (pos 0) (unpacked q buffer) l₁ l₂ → (i : ℕ) → Read i l₁ → Read i l₂
+  read-kept l₁ l₂ step i e = reached-kept (pos 0) (unpacked q buffer) step (rawAt q i) e
 
-  pub read-after : (i n m i′ k : ℕ) (before : List ℤ) {l y : List ℤ} → i′ ≡ i + n → n + m ≡ k
-      → l ≡ read q buffer i n before → y ≡ read q buffer i′ m l → y ≡ read q buffer i k before
-  read-after i n m i′ k before pi pk ml my = my ∙ rw (pi, ml, ← pk) (read-split i n m before)
+  module _ (ok : Taken q) where
+    pub read-first : (before : List ℤ) → Reading before before (record { group = 0; block = 0; kernel = 0 })
+    read-first = walked-first q (pos 0) (unpacked q buffer) Read ok
 
-  pub read-length : (i n : ℕ) (l : List ℤ) → length (read q buffer i n l) ≡ length l
-  unfolding read
-  read-length i n l = steps-length number-step (λ k x. length-set x (rawAt q k) (elementAt (sizeOf q) buffer (k * sizeOf q))) i n l
+    element : (k : ℕ) → k < elementCount q → elementAt (sizeOf q) buffer (k * sizeOf q) ≡ getD (unpacked q buffer) (rawAt q k) (pos 0)
+    unfolding unpacked
+    element k hk =
+        ap (λ (n : ℕ). elementAt (sizeOf q) buffer (n * sizeOf q)) (sym (numberAt-rawAt q ok k hk))
+        ∙ sym (getD-tabulate (λ (i : ℕ). elementAt (sizeOf q) buffer (numberAt q i * sizeOf q)) (elementCount q) (rawAt q k) (pos 0) (rawAt-lt q ok k hk))
 
-  pub runRead-read : (i from m : ℕ) (l : List ℤ) → Run q i from m
-      → runRead (sizeOf q) buffer (i * sizeOf q) from (q .rows * q .columns) m l ≡ read q buffer i m l
-  unfolding runRead read
-  runRead-read i from m l r =
-      steps-same (run-step (sizeOf q) buffer (i * sizeOf q) from (q .rows * q .columns)) number-step 0 i m l
-      (λ k h x.
-      let index : from + (0 + k) * (q .rows * q .columns) ≡ rawAt q (i + k) = omega (arith, r .along k h) in
-      let place : i * sizeOf q + (0 + k) * sizeOf q ≡ (i + k) * sizeOf q = omega arith in
-      rw (index, place))
+    -- ---- one run
 
-  -- as the code gives it: e bytes an element, from byte `at` on, `width` elements apart
-  pub read-run : (i from m e at width : ℕ) (l : List ℤ) {y : List ℤ} → Run q i from m → sizeOf q ≡ e → at ≡ i * e → width ≡ q .rows * q .columns
-      → y ≡ runRead e buffer at from width m l → y ≡ read q buffer i m l
-  read-run i from m e at width l r pe pa pw my = my ∙ rw (pa, pw, ← pe) (runRead-read i from m l r)
+    module _ (room : surfaceBytes q ≤ length buffer) (x : Run) (a : AtRun q x) (l : List ℤ) (count : length l ≡ elementCount q) where
+      held : Holds q x (runColumns q x)
+      held = run-holds q ok x a
+
+      fits : BlockFits (runColumns q x) (length l) (length buffer)
+      fits = holds-fits q ok x a (runColumns q x) held (length l) (length buffer) count (omega (arith, room, surface-ge q))
+
+      same : (r i : ℕ) → r < runColumns q x .rows → i < runColumns q x .count
+          → (let k = runColumns q x in
+          elementAt (k .size) buffer (k .at + k .stride * i + r * k .size) ≡ getD (unpacked q buffer) (k .from + k .plane * r + i) (pos 0))
+      same r i hr hi =
+          let k = runColumns q x in
+          let w = held .each i r hi hr in
+          ap₂ (λ (e p : ℕ). elementAt e buffer p) (held .size-is) (w .2 .byte)
+          ∙ element (pixelNumber q (x .group) (x .block) (w .0) (x .kernel) (w .1)) (cell-number q ok x a k i r (w .0) (w .1) (w .2))
+          ∙ ap (λ (p : ℕ). getD (unpacked q buffer) p (pos 0)) (sym (cell-index q ok x a k i r (w .0) (w .1) (w .2)))
+
+      read-has : RunHas q (pos 0) (unpacked q buffer) Read x (blockRead (runColumns q x) buffer l)
+      read-has t c ht hc =
+          let k = runColumns q x in
+          let w = held .all t c ht hc in
+          subst (λ (p : ℕ). getD (blockRead k buffer l) p (pos 0) ≡ getD (unpacked q buffer) p (pos 0)) (cell-index q ok x a k (w .0) (w .1) t c (w .2))
+          (block-read-reached k buffer (unpacked q buffer) l fits (held .wide) same (w .1) (w .0) (w .2 .row-lt) (w .2 .column-lt))
+
+    -- a turn of the walk
+    pub read-next : surfaceBytes q ≤ length buffer → (before : List ℤ) → length before ≡ elementCount q → (x y : Run) {l l′ : List ℤ} → AtRun q x
+        → Reading before l x → l′ ≡ blockRead (runColumns q x) buffer l → NextRun q x y → Reading before l′ y
+    read-next room before count x y {l} a w e next =
+        let long = w .toward .long ∙ count in
+        rw e
+        (walked-next q (pos 0) (unpacked q buffer) Read ok read-kept x y a w (block-read-toward (runColumns q x) buffer (unpacked q buffer) l (fits room x a l long) (run-holds q ok x a .wide) (same room x a l long)) (read-has room x a l long) next)
+
+    -- ---- all runs
+
+    unpacked-all : (l : List ℤ) → length l ≡ elementCount q → ((i : ℕ) → i < elementCount q → Read i l) → l ≡ unpacked q buffer
+    unfolding unpacked
+    unpacked-all l count all =
+        ext-getD (pos 0) l (unpacked q buffer) (count ∙ sym (length-tabulate (λ (i : ℕ). elementAt (sizeOf q) buffer (numberAt q i * sizeOf q)) (elementCount q)))
+        (λ i h.
+        let hi : i < elementCount q = subst (λ (n : ℕ). i < n) count h in
+        subst (λ (j : ℕ). getD l j (pos 0) ≡ getD (unpacked q buffer) j (pos 0)) (rawAt-numberAt q ok i hi) (all (numberAt q i) (numberAt-lt q ok i hi)))
+
+    pub read-done : (before : List ℤ) → length before ≡ elementCount q → (x : Run) (l : List ℤ) → q .kernels ≤ x .group * groupOf q
+        → Reading before l x → l ≡ unpacked q buffer
+    read-done before count x l past w = unpacked-all l (w .toward .long ∙ count) (walked-all q (pos 0) (unpacked q buffer) Read ok x past w)

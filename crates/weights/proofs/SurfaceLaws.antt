@@ -1,7 +1,7 @@
 -- The packed surface: whole in 128 bytes, and its bytes after packing (specs/Contents.antt), each at the byte of an element, in the fill or past
 -- the surface. Assumes nothing.
 --     surface-whole, surface-ge, surface-lt     the surface's length
---     packed-length, packed-byte, packed-fill, packed-past     the bytes after packing
+--     packed-length, packed-at, packed-byte, packed-fill, packed-past     the bytes after packing
 use Prim.Native.Nat.{ℕ, suc, _+_, _*_, _%_, _≤_, _<_}
 use native.Mathlib.Nat.{mul-le-mul-right}
 use native.Mathlib.Decide.{decLt}
@@ -40,7 +40,7 @@ module _ (q : WeightLayout) (raw : List ℤ) (before : List ℕ) where
   unfolding packed
   packed-length = length-remade (packedByte q raw) before
 
-  packed-at : (p : ℕ) → p < length before → getD (packed q raw before) p 0 ≡ packedByte q raw p (getD before p 0)
+  pub packed-at : (p : ℕ) → p < length before → getD (packed q raw before) p 0 ≡ packedByte q raw p (getD before p 0)
   unfolding packed
   packed-at p h = getD-remade (packedByte q raw) before p 0 h
 

@@ -1,72 +1,16 @@
--- What the loops leave, one store after another, and where they stand. This file only describes the loops: no public promise rests on it.
--- Assumes nothing.
-use Prim.Native.Nat.{ℕ, zero, suc, _+_, _*_, _≤_, _<_}
-use mathlib.Core.Path.{_≡_}
+-- How the code walks the elements: by runs, each one kernel's channels of one block at all pixels, written and read as one block of columns; and
+-- what the runs leave of a buffer. This file only describes the code's own steps: no public promise rests on it. Assumes nothing.
+use Prim.Native.Nat.{ℕ, _+_, _*_, _≤_, _<_}
+use mathlib.Core.Bool.{cond}
 use mathlib.Core.List.{List}
-use lib.ListN.{getD, set}
-use lib.IntN.{ℤ, pos}
-use Rattle.elements.specs.Bytes.{byteOf, elementAt}
+use lib.Dec.{ltb, eqb}
+use lib.IntN.{ℤ}
+use Rattle.elements.specs.Lists.{remade}
+use Rattle.columns.specs.declared.ColumnBlock.{ColumnBlock}
 use Rattle.weights.specs.declared.WeightLayout.{WeightLayout}
-use Rattle.weights.specs.declared.tiles.Tile.{Tile}
-use Rattle.weights.specs.Geometry.{sizeOf, groupOf, elementCount, groupKernels, blockChannels, rawAt}
-
--- n steps, numbered from i on, one after another
-unfoldable pub steps : {L : Type 0} → (ℕ → L → L) → ℕ → ℕ → L → L
-steps step i zero l = l
-steps step i (suc n) l = step (i + n) (steps step i n l)
-
--- the e low bytes of an element stored from byte `at` on
-unfoldable pub put : ℕ → ℤ → ℕ → List ℕ → List ℕ
-put zero z at l = l
-put (suc e) z at l = set (put e z at l) (at + e) (byteOf z e)
-
--- n elements stored from byte `at` on, e bytes each, taken from raw index `from` on, `width` apart
-unfoldable pub runStored : ℕ → List ℤ → (at from width n : ℕ) → List ℕ → List ℕ
-runStored e raw at from width n buffer =
-    steps (λ (k : ℕ) (l : List ℕ). put e (getD raw (from + k * width) (pos 0)) (at + k * e) l) 0 n buffer
-
--- n elements stored from number i on, each at its place
-unfoldable pub stored : WeightLayout → List ℤ → (i n : ℕ) → List ℕ → List ℕ
-stored q raw i n buffer =
-    steps (λ (k : ℕ) (l : List ℕ). put (sizeOf q) (getD raw (rawAt q k) (pos 0)) (k * sizeOf q) l) i n buffer
-
--- n bytes from `at` on set to 0
-unfoldable pub cleared : (at n : ℕ) → List ℕ → List ℕ
-cleared at n buffer = steps (λ (p : ℕ) (l : List ℕ). set l p 0) at n buffer
-
--- n elements read from byte `at` on, e bytes each, put to raw index `from` on, `width` apart
-unfoldable pub runRead : ℕ → List ℕ → (at from width n : ℕ) → List ℤ → List ℤ
-runRead e buffer at from width n raw =
-    steps (λ (k : ℕ) (l : List ℤ). set l (from + k * width) (elementAt e buffer (at + k * e))) 0 n raw
-
--- n elements read from number i on, each put to its raw index
-unfoldable pub read : WeightLayout → List ℕ → (i n : ℕ) → List ℤ → List ℤ
-read q buffer i n raw =
-    steps (λ (k : ℕ) (l : List ℤ). set l (rawAt q k) (elementAt (sizeOf q) buffer (k * sizeOf q))) i n raw
-
--- ---- where a run of channels lies
-
--- n elements from raw index `from` on, `width` apart, are among `given` elements, and from byte `at` on, e bytes each, among `len` bytes
-pub record RunFits (e given len at from width n : ℕ) : Type 0 where
-  pub room : at + n * e ≤ len
-  pub source : from + n * width < given + width
-  pub width-pos : 0 < width
-  pub width-le : width ≤ 1024
-
--- m elements from number i on are those from raw index `from` on, one pixel's width apart
-pub record Run (q : WeightLayout) (i from m : ℕ) : Type 0 where
-  pub some : 0 < m
-  pub within : i + m ≤ elementCount q
-  pub along : (d : ℕ) → d < m → rawAt q (i + d) ≡ from + d * (q .rows * q .columns)
-
--- n runs of m elements each, from number i on, are those from raw index `from` on, one kernel's width apart
-pub record Runs (q : WeightLayout) (i from n m : ℕ) : Type 0 where
-  pub some : 0 < m
-  pub within : i + n * m ≤ elementCount q
-  pub along : (j d : ℕ) → j < n → d < m
-      → rawAt q (i + j * m + d) ≡ from + j * (q .channels * (q .rows * q .columns)) + d * (q .rows * q .columns)
-
--- ---- tiles
+use Rattle.weights.specs.declared.walk.Run.{Run}
+use Rattle.weights.specs.Geometry.{sizeOf, groupOf, elementCount, groupKernels, blockChannels}
+use Rattle.weights.specs.Contents.{packedByte}
 
 -- the number of channel d of block b of kernel j of group g at pixel t
 unfoldable pub pixelNumber : WeightLayout → (g b t j d : ℕ) → ℕ
@@ -80,18 +24,57 @@ pixelNumber q g b t j d =
 unfoldable pub pixelIndex : WeightLayout → (g b t j d : ℕ) → ℕ
 pixelIndex q g b t j d = ((g * groupOf q + j) * q .channels + (b * 64 + d)) * (q .rows * q .columns) + t
 
--- a tile of the tensor
-pub record AtTile (q : WeightLayout) (x : Tile) : Type 0 where
+-- ---- runs
+
+-- a run of the tensor
+pub record AtRun (q : WeightLayout) (x : Run) : Type 0 where
   pub group-lt : x .group * groupOf q < q .kernels
   pub block-lt : x .block * 64 < q .channels
-  pub pixel-lt : x .pixel < q .rows * q .columns
-  pub number : x .number ≡ pixelNumber q (x .group) (x .block) (x .pixel) 0 0
+  pub kernel-lt : x .kernel < groupKernels q (x .group)
 
--- elements of a tile
-unfoldable pub tileElements : WeightLayout → Tile → ℕ
-tileElements q x = groupKernels q (x .group) * blockChannels q (x .block)
+-- the order of the walk, by group, block and kernel: a tensor has at most 128 blocks, a group at most 32 kernels
+abbrev pub rankOf : Run → ℕ
+rankOf x = (x .group * 128 + x .block) * 32 + x .kernel
 
--- the tile y comes behind the tile x, or x was the last
-pub record NextTile (q : WeightLayout) (x y : Tile) : Type 0 where
-  pub number : y .number ≡ x .number + tileElements q x
-  pub taken : y .number < elementCount q → AtTile q y
+-- the run y comes behind the run x with none between them, or x was the last
+pub record NextRun (q : WeightLayout) (x y : Run) : Type 0 where
+  pub later : rankOf x < rankOf y
+  pub between : (z : Run) → AtRun q z → rankOf z < rankOf y → rankOf z ≤ rankOf x
+  pub group-le : y .group ≤ x .group + 1
+  pub at : y .group * groupOf q < q .kernels → AtRun q y
+
+-- the columns of a run: a column for each pixel, in it the block's channels side by side
+abbrev pub pixelColumns : WeightLayout → Run → ColumnBlock
+pixelColumns q x =
+    record {
+      size = sizeOf q;
+      rows = blockChannels q (x .block);
+      count = q .rows * q .columns;
+      from = pixelIndex q (x .group) (x .block) 0 (x .kernel) 0;
+      plane = q .rows * q .columns;
+      at = pixelNumber q (x .group) (x .block) 0 (x .kernel) 0 * sizeOf q;
+      stride = groupKernels q (x .group) * blockChannels q (x .block) * sizeOf q;
+    }
+
+-- where a kernel has one pixel: a column for each channel, since these lie side by side in both places
+abbrev pub channelColumns : WeightLayout → Run → ColumnBlock
+channelColumns q x =
+    record {
+      size = sizeOf q;
+      rows = 1;
+      count = blockChannels q (x .block);
+      from = pixelIndex q (x .group) (x .block) 0 (x .kernel) 0;
+      plane = blockChannels q (x .block);
+      at = pixelNumber q (x .group) (x .block) 0 (x .kernel) 0 * sizeOf q;
+      stride = sizeOf q;
+    }
+
+unfoldable pub runColumns : WeightLayout → Run → ColumnBlock
+runColumns q x = cond (eqb (q .rows * q .columns) 1) (channelColumns q x) (pixelColumns q x)
+
+-- ---- what all runs leave
+
+-- the elements' bytes packed, and every later byte kept
+unfoldable pub written : WeightLayout → List ℤ → List ℕ → List ℕ
+written q raw before =
+    remade (λ (p : ℕ) (old : ℕ). cond (ltb p (elementCount q * sizeOf q)) (packedByte q raw p old) old) before

@@ -1,9 +1,7 @@
 // Direct-convolution weights, packed and read back (scope paper, "Weights").
-mod load;
 mod measure;
 mod rules;
-mod store;
-mod tiles;
+mod walk;
 
 ghost use mathlib.Core.Path.{_≡_};
 ghost use lib.ListN.{length};
@@ -40,7 +38,6 @@ fn check(layout: WeightLayout, given: usize, len: usize) -> Answer
     }
     Answer::Accepted
 }
-
 // Packs raw weights into a buffer: checks 1, 2, 6, 5, 7.
 pub fn pack(layout: WeightLayout, elements: &[i16], buffer: &mut [u8]) -> Answer
     ensures { λ r. ⌜ r ≡ packAnswer layout (now (elements .entry)) (length (now (buffer .entry))) ⌝ }
@@ -54,8 +51,9 @@ pub fn pack(layout: WeightLayout, elements: &[i16], buffer: &mut [u8]) -> Answer
     let Answer::Accepted = v else {
         return v;
     };
-    store::store_tiles(layout, elements, buffer);
-    store::clear_fill(layout, buffer);
+    walk::write_runs(layout, elements, buffer);
+    let end = measure::weight_bytes(layout) as usize;
+    columns::clear(end, measure::surface_bytes(layout) as usize - end, buffer);
     Answer::Accepted
 }
 
@@ -68,6 +66,6 @@ pub fn unpack(layout: WeightLayout, buffer: &[u8], elements: &mut [i16]) -> Answ
     let Answer::Accepted = a else {
         return a;
     };
-    load::load_tiles(layout, buffer, elements);
+    walk::read_runs(layout, buffer, elements);
     Answer::Accepted
 }

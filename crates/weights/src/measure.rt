@@ -6,22 +6,6 @@ ghost use Rattle.weights.specs.Geometry.{sizeOf, elementCount, surfaceBy
 ghost use Rattle.weights.specs.Rules.{sizesTaken};
 use crate::WeightLayout;
 
-// Rows times columns.
-pub(crate) fn pixels(layout: WeightLayout) -> usize
-    requires { ⌜ sizesTaken layout ≡ true ⌝ }
-    ensures { λ r. ⌜ r ≡ layout .rows * layout .columns ⌝ }
-{
-    layout.rows as usize * layout.columns as usize
-}
-
-// Elements of one kernel.
-pub(crate) fn kernel_elements(layout: WeightLayout) -> usize
-    requires { ⌜ sizesTaken layout ≡ true ⌝ }
-    ensures { λ r. ⌜ r ≡ layout .channels * (layout .rows * layout .columns) ⌝ }
-{
-    layout.channels as usize * pixels(layout)
-}
-
 // Elements of all kernels.
 pub(crate) fn element_count(layout: WeightLayout) -> u64
     requires { ⌜ sizesTaken layout ≡ true ⌝ }

@@ -1,19 +1,15 @@
--- `weights::pack` meets its contract: it makes the definition's checks in their order, and all elements stored, with the fill cleared, give the
--- packed buffer. Assumes nothing.
-use Prim.Native.Nat.{ℕ, _-_, _*_}
+-- `weights::pack` meets its contract: it makes the definition's checks in their order, and all runs written, with the fill cleared, give the packed
+-- buffer. Assumes nothing.
 use native.Mathlib.Omega.{arith}
-use mathlib.Core.Path.{_≡_, sym, ap, _∙_}
-use mathlib.Core.List.{List}
+use mathlib.Core.Path.{_≡_, sym, _∙_}
 use lib.ListN.{length}
 use Rattle.refusal.specs.declared.Answer.the-variants.{Accepted}
 use Rattle.refusal.specs.Checks.{inOrder}
 use Rattle.elements.specs.Values.{valueChecks}
-use Rattle.weights.specs.Geometry.{sizeOf, elementCount, surfaceBytes}
 use Rattle.weights.specs.Rules.{weightChecks}
-use Rattle.weights.specs.Steps.{cleared}
 use Rattle.weights.proofs.CallLaws.{Admitted, admitted, pack-refused, pack-outside, pack-taken}
-use Rattle.weights.proofs.StoreLaws.{stored-length}
-use Rattle.weights.proofs.ContentLaws.{packed-by-steps}
+use Rattle.weights.proofs.SurfaceLaws.{surface-ge}
+use Rattle.weights.proofs.WriteLaws.{write-packed}
 use borrow.Author.Needs.{needs}
 use Rattle.weights.proofs.pack.Statement.{statement}
 use Rattle.weights.proofs.pack.Tie as tie
@@ -30,6 +26,13 @@ adm c = admitted (entry c .args .layout) (length (entry c .args .elements .now))
 
 values : (c : tie.After-enum-told3) → (let a = entry (c .before .before .before) .args in inOrder (valueChecks (a .layout .precision) (a .elements .now)) ≡ Accepted)
 values c = sym (c .before .before .check-values .ensures) ∙ c .enum-told3 .given .1
+
+-- from behind the runs: the checks of the values, and those before them
+abbrev written-at : tie.After-slice-known2 → tie.After-enum-told3
+written-at c = c .before .before .before .before
+
+abbrev checked : tie.After-slice-known2 → tie.After-enum-told
+checked c = written-at c .before .before .before
 
 check-requires : tie.Need-check-requires
 check-requires c κs = search needs
@@ -66,15 +69,22 @@ returns-2 c =
     let p = pack-outside (a .layout) (a .elements .now) (a .buffer .now) (passed d) (sym (v .check-values .ensures) ∙ refused) in
     (refused ∙ p .0, p .1)
 
-store-tiles-requires : tie.Need-store-tiles-requires
-store-tiles-requires c κs = passed (c .before .before .before .before)
+write-runs-requires : tie.Need-write-runs-requires
+write-runs-requires c κs = passed (c .before .before .before .before)
 
-clear-fill-requires : tie.Need-clear-fill-requires
-clear-fill-requires c κs =
-    let s = c .before .before .before in
-    let d = s .before .before .before .before .before in
-    let a = entry d .args in
-    (adm d .sizes, omega (arith, adm d .room, ap length (s .store-tiles .ensures), stored-length (a .layout) (a .elements .now) 0 (elementCount (a .layout)) (a .buffer .now)))
+weight-bytes-requires : tie.Need-weight-bytes-requires
+weight-bytes-requires c κs = adm (checked c) .sizes
+
+surface-bytes-requires : tie.Need-surface-bytes-requires
+surface-bytes-requires c κs = adm (checked (c .before)) .sizes
+
+sub-clear : tie.Need-sub-clear
+sub-clear c =
+    let q = entry (checked (c .before .before)) .args .layout in
+    omega (arith, c .before .weight-bytes .ensures, c .surface-bytes .ensures, surface-ge q)
+
+clear-requires : tie.Need-clear-requires
+clear-requires c κs = search needs
 
 same-length : tie.Need-same-length
 same-length c = search needs
@@ -82,16 +92,14 @@ same-length c = search needs
 returns-3 : tie.Need-returns-3
 returns-3 c =
     let f = c .before .before in
-    let s = f .before .before .before .before in
-    let v = s .before .before in
-    let d = v .before .before .before in
+    let b = f .before .before in
+    let w = b .before .before in
+    let d = checked w in
     let a = entry d .args in
     let q = a .layout in
-    let p = pack-taken q (a .elements .now) (a .buffer .now) (passed d) (values v) in (
+    let p = pack-taken q (a .elements .now) (a .buffer .now) (passed d) (values (written-at w)) in (
       p .0,
-      f .clear-fill .ensures
-          ∙ ap (λ (l : List ℕ). cleared (elementCount q * sizeOf q) (surfaceBytes q - elementCount q * sizeOf q) l) (s .store-tiles .ensures)
-          ∙ packed-by-steps q (a .elements .now) (a .buffer .now) (adm d .room)
+      write-packed q (a .elements .now) (a .buffer .now) (adm d .room) (b .before .weight-bytes .ensures) (b .surface-bytes .ensures) (w .before .before .write-runs .ensures) (f .clear .ensures)
           ∙ p .1,
     )
 
@@ -107,7 +115,10 @@ pack-spec =
     enum-told-3
     enum-told-4
     returns-2
-    store-tiles-requires
-    clear-fill-requires
+    write-runs-requires
+    weight-bytes-requires
+    surface-bytes-requires
+    sub-clear
+    clear-requires
     same-length
     returns-3)

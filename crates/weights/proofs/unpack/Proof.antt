@@ -1,12 +1,11 @@
--- `weights::unpack` meets its contract: it makes the definition's checks in their order, and all elements read give the raw weights. Assumes
+-- `weights::unpack` meets its contract: it makes the definition's checks in their order, and all runs read give the raw weights. Assumes
 -- nothing.
 use mathlib.Core.Path.{_≡_, sym, _∙_}
 use lib.ListN.{length}
 use Rattle.refusal.specs.declared.Answer.the-variants.{Accepted}
 use Rattle.refusal.specs.Checks.{inOrder}
 use Rattle.weights.specs.Rules.{weightChecks}
-use Rattle.weights.proofs.CallLaws.{admitted, unpack-refused, unpack-taken}
-use Rattle.weights.proofs.ContentLaws.{unpacked-by-steps}
+use Rattle.weights.proofs.CallLaws.{unpack-refused, unpack-taken}
 use borrow.Author.Needs.{needs}
 use Rattle.weights.proofs.unpack.Statement.{statement}
 use Rattle.weights.proofs.unpack.Tie as tie
@@ -33,8 +32,8 @@ returns c =
     let p = unpack-refused (a .layout) (a .buffer .now) (a .elements .now) (sym (d .check .ensures) ∙ refused) in
     (refused ∙ p .0, p .1)
 
-load-tiles-requires : tie.Need-load-tiles-requires
-load-tiles-requires c κs = passed (c .before)
+read-runs-requires : tie.Need-read-runs-requires
+read-runs-requires c κs = passed (c .before)
 
 same-length : tie.Need-same-length
 same-length c = search needs
@@ -43,9 +42,8 @@ returns-2 : tie.Need-returns-2
 returns-2 c =
     let d = c .before .before .before in
     let a = d .before .before .before .before .args in
-    let adm = admitted (a .layout) (length (a .elements .now)) (length (a .buffer .now)) (passed d) in
     let p = unpack-taken (a .layout) (a .buffer .now) (a .elements .now) (passed d) in
-    (p .0, c .before .load-tiles .ensures ∙ unpacked-by-steps (a .layout) (adm .layout) (a .buffer .now) (a .elements .now) (adm .count) ∙ p .1)
+    (p .0, c .before .read-runs .ensures ∙ p .1)
 
 pub unpack-spec : {M : Type 1} → statement M
 unpack-spec =
@@ -55,6 +53,6 @@ unpack-spec =
     enum-told
     enum-told-2
     returns
-    load-tiles-requires
+    read-runs-requires
     same-length
     returns-2)

@@ -1,8 +1,8 @@
--- `weights::tiles::group_size` meets its contract: its test is the definition's. Assumes nothing.
+-- `weights::walk::group_size` meets its contract: its test is the definition's. Assumes nothing.
 use mathlib.Core.Path.{sym}
 use Rattle.weights.proofs.NumberLaws.{groupSize-int8, groupSize-other}
-use Rattle.weights.proofs.tiles.group_size.Statement.{statement}
-use Rattle.weights.proofs.tiles.group_size.Tie as tie
+use Rattle.weights.proofs.walk.group_size.Statement.{statement}
+use Rattle.weights.proofs.walk.group_size.Tie as tie
 
 returns : tie.Need-returns
 returns c = sym (groupSize-int8 (c .before .args .precision) (c .if1 .taken))

@@ -1,0 +1,95 @@
+-- The block of columns of a run as the code computes it: the definition's, and its products within 64 bits. Assumes nothing.
+--     Bounds, run-bounds                 the products
+--     channel-columns, pixel-columns     the block
+use Prim.Native.Nat.{ℕ, _+_, _*_, _^_, _≤_}
+use native.Mathlib.Nat.{mul-le-mul}
+use native.Mathlib.Omega.{arith}
+use mathlib.Core.Path.{_≡_}
+use borrow.Author.Tests.{eq-eqb, ne-eqb}
+use Rattle.elements.proofs.ByteLaws.{elementBytes-le}
+use Rattle.weights.specs.declared.WeightLayout.{WeightLayout}
+use Rattle.weights.specs.declared.walk.Run.{Run}
+use Rattle.weights.specs.Geometry.{sizeOf, groupOf, groupKernels, blockChannels}
+use Rattle.weights.specs.Steps.{pixelNumber, pixelIndex, AtRun, runColumns}
+use Rattle.weights.proofs.Taken.{Taken}
+use Rattle.weights.proofs.NumberLaws.{groupSize-le}
+use Rattle.weights.proofs.BoundLaws.{pixels-le}
+use Rattle.weights.proofs.RunLaws.{run-small}
+
+-- the code's products
+pub record Bounds (q : WeightLayout) (x : Run) (size first kernels channels : ℕ) : Type 0 where
+  pub pixels : q .rows * q .columns ≤ 2 ^ 10
+  pub kernel : first + x .kernel ≤ 2 ^ 13
+  pub source : (first + x .kernel) * q .channels + x .block * 64 ≤ 2 ^ 27
+  pub from : ((first + x .kernel) * q .channels + x .block * 64) * (q .rows * q .columns) ≤ 2 ^ 37
+  pub block : first * q .channels + x .block * 64 * kernels ≤ 2 ^ 27
+  pub before : (first * q .channels + x .block * 64 * kernels) * (q .rows * q .columns) ≤ 2 ^ 37
+  pub run : x .kernel * channels ≤ 2 ^ 11
+  pub at : ((first * q .channels + x .block * 64 * kernels) * (q .rows * q .columns) + x .kernel * channels) * size ≤ 2 ^ 39
+  pub pixel : kernels * channels ≤ 2 ^ 11
+  pub stride : kernels * channels * size ≤ 2 ^ 12
+
+module _ (q : WeightLayout) (ok : Taken q) (x : Run) (a : AtRun q x) (size first kernels channels : ℕ)
+    (es : size ≡ sizeOf q) (ef : first ≡ x .group * groupOf q) (en : kernels ≡ groupKernels q (x .group)) (em : channels ≡ blockChannels q (x .block)) where
+  pub run-bounds : Bounds q x size first kernels channels
+  unfolding groupKernels blockChannels
+  run-bounds =
+      let s = run-small q ok x a in
+      let p = pixels-le q ok in
+      let kernel : first + x .kernel ≤ 2 ^ 13 = omega (arith, ef, s .kernel-in, ok .kernels .most-le) in
+      let few : kernels ≤ 32 = omega (arith, en, groupSize-le (q .precision)) in
+      let some : channels ≤ 64 = omega (arith, em) in
+      let low : size ≤ 2 = omega (arith, es, elementBytes-le (q .precision)) in
+      let source : (first + x .kernel) * q .channels + x .block * 64 ≤ 2 ^ 27 = omega (arith, mul-le-mul {n₂ = 2 ^ 13} {m₂ = 2 ^ 13} kernel (ok .channels .most-le), s .block-lt) in
+      let group = mul-le-mul {n₁ = first} {n₂ = 2 ^ 13} {m₂ = 2 ^ 13} (omega arith) (ok .channels .most-le) in
+      let block : first * q .channels + x .block * 64 * kernels ≤ 2 ^ 27 = omega (arith, group, mul-le-mul {n₁ = x .block * 64} {n₂ = 2 ^ 13} {m₂ = 2 ^ 5} (omega (arith, s .block-lt)) few) in
+      let before = mul-le-mul {n₂ = 2 ^ 27} {m₂ = 2 ^ 10} block p in
+      let run = mul-le-mul {n₁ = x .kernel} {n₂ = 2 ^ 5} {m₂ = 2 ^ 6} (omega (arith, s .kernel-lt)) some in
+      let pixel = mul-le-mul {n₂ = 2 ^ 5} {m₂ = 2 ^ 6} few some in
+      record {
+        pixels = p;
+        kernel = kernel;
+        source = source;
+        from = mul-le-mul {n₂ = 2 ^ 27} {m₂ = 2 ^ 10} source p;
+        block = block;
+        before = before;
+        run = run;
+        at = mul-le-mul {n₁ = (first * q .channels + x .block * 64 * kernels) * (q .rows * q .columns) + x .kernel * channels} {n₂ = 2 ^ 38} {m₂ = 2 ^ 1} (omega (arith, before, run)) low;
+        pixel = pixel;
+        stride = mul-le-mul {n₂ = 2 ^ 11} {m₂ = 2 ^ 1} pixel low;
+      }
+
+  from-is : ((first + x .kernel) * q .channels + x .block * 64) * (q .rows * q .columns) ≡ pixelIndex q (x .group) (x .block) 0 (x .kernel) 0
+  unfolding pixelIndex
+  from-is = rw ef (omega arith)
+
+  at-is : ((first * q .channels + x .block * 64 * kernels) * (q .rows * q .columns) + x .kernel * channels) * size
+      ≡ pixelNumber q (x .group) (x .block) 0 (x .kernel) 0 * sizeOf q
+  unfolding pixelNumber
+  at-is = rw (ef, en, em, es) (omega arith)
+
+  pub channel-columns : q .rows * q .columns ≡ 1
+      → record {
+        size = size;
+        rows = 1;
+        count = channels;
+        from = ((first + x .kernel) * q .channels + x .block * 64) * (q .rows * q .columns);
+        plane = channels;
+        at = ((first * q .channels + x .block * 64 * kernels) * (q .rows * q .columns) + x .kernel * channels) * size;
+        stride = size;
+      } ≡ runColumns q x
+  unfolding runColumns
+  channel-columns one = rw (eq-eqb (q .rows * q .columns) 1 one, from-is, at-is, em, es)
+
+  pub pixel-columns : (q .rows * q .columns ≡ 1 → ⊥)
+      → record {
+        size = size;
+        rows = channels;
+        count = q .rows * q .columns;
+        from = ((first + x .kernel) * q .channels + x .block * 64) * (q .rows * q .columns);
+        plane = q .rows * q .columns;
+        at = ((first * q .channels + x .block * 64 * kernels) * (q .rows * q .columns) + x .kernel * channels) * size;
+        stride = kernels * channels * size;
+      } ≡ runColumns q x
+  unfolding runColumns
+  pixel-columns more = rw (ne-eqb (q .rows * q .columns) 1 more, from-is, at-is, en, em, es)

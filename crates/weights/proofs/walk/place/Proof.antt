@@ -1,0 +1,169 @@
+-- `weights::walk::place` meets its contract: its products are the definition's, within 64 bits. Assumes nothing.
+use Prim.Native.Nat.{ℕ, _*_}
+use native.Mathlib.Omega.{arith}
+use mathlib.Core.Path.{_≡_, ap}
+use Rattle.weights.specs.Geometry.{groupOf, blockChannels}
+use Rattle.weights.proofs.Taken.{Taken, taken}
+use Rattle.weights.proofs.BoundLaws.{pixels-le}
+use Rattle.weights.proofs.BlockLaws.{Bounds, run-bounds, channel-columns, pixel-columns}
+use borrow.Author.Needs.{needs}
+use Rattle.weights.proofs.walk.place.Statement.{statement}
+use Rattle.weights.proofs.walk.place.Tie as tie
+
+-- the places before the last call
+abbrev grouped : tie.After-least → tie.After-group-size
+grouped c = c .before .before .before .before .before
+
+abbrev entry : tie.After-group-size → tie.Start
+entry c = c .before .before .before
+
+sizes : (c : tie.Start) → Taken (c .args .layout)
+sizes c = taken (c .args .layout) (c .pre .0)
+
+first-is : (c : tie.After-group-size) → entry c .args .run .group * c .group-size .result ≡ entry c .args .run .group * groupOf (entry c .args .layout)
+first-is c = ap (λ (n : ℕ). entry c .args .run .group * n) (c .group-size .ensures)
+
+channels-is : (c : tie.After-least) → (let a = entry (grouped c) .args in c .least .result ≡ blockChannels (a .layout) (a .run .block))
+unfolding blockChannels
+channels-is c = c .least .ensures
+
+bound : (c : tie.After-least)
+    → (let g = grouped c in
+    let s = entry g in
+    Bounds (s .args .layout) (s .args .run) (g .before .before .element-bytes .result) (s .args .run .group * g .group-size .result) (c .before .before .before .group-kernels .result) (c .least .result))
+bound c =
+    let g = grouped c in
+    let s = entry g in
+    run-bounds (s .args .layout) (sizes s) (s .args .run) (s .pre .1) (g .before .before .element-bytes .result) (s .args .run .group * g .group-size .result) (c .before .before .before .group-kernels .result) (c .least .result)
+    (g .before .before .element-bytes .ensures) (first-is g) (c .before .before .before .group-kernels .ensures) (channels-is c)
+
+element-bytes-requires : tie.Need-element-bytes-requires
+element-bytes-requires c κs = search needs
+
+mul-pixels : tie.Need-mul-pixels
+mul-pixels c = let s = c .before .before in omega (arith, pixels-le (s .args .layout) (sizes s))
+
+group-size-requires : tie.Need-group-size-requires
+group-size-requires c κs = search needs
+
+mul-first : tie.Need-mul-first
+mul-first c = let s = entry (c .before) in omega (arith, first-is (c .before), s .pre .1 .group-lt, sizes s .kernels .most-le)
+
+group-kernels-requires : tie.Need-group-kernels-requires
+group-kernels-requires c κs = (entry (c .before) .pre .0, entry (c .before) .pre .1 .group-lt)
+
+mul-channel : tie.Need-mul-channel
+mul-channel c = search needs
+
+sub-least : tie.Need-sub-least
+sub-least c = search needs
+
+least-requires : tie.Need-least-requires
+least-requires c κs = search needs
+
+add-from : tie.Need-add-from
+add-from c = let b = bound (c .before) in omega arith
+
+mul-from : tie.Need-mul-from
+mul-from c = let b = bound (c .before .before) in omega arith
+
+add-from-2 : tie.Need-add-from-2
+add-from-2 c = let b = bound (c .before .before) in omega arith
+
+cast-from : tie.Need-cast-from
+cast-from c = let b = bound (c .before .before) in omega arith
+
+cast-from-2 : tie.Need-cast-from-2
+cast-from-2 c = let b = bound (c .before .before) in omega arith
+
+mul-from-2 : tie.Need-mul-from-2
+mul-from-2 c = let b = bound (c .before .before) in omega arith
+
+mul-number : tie.Need-mul-number
+mul-number c = let b = bound (c .before .before .before) in omega arith
+
+mul-number-2 : tie.Need-mul-number-2
+mul-number-2 c = let b = bound (c .before .before .before) in omega arith
+
+add-number : tie.Need-add-number
+add-number c = let b = bound (c .before .before .before) in omega arith
+
+cast-number : tie.Need-cast-number
+cast-number c = let b = bound (c .before .before .before) in omega arith
+
+cast-number-2 : tie.Need-cast-number-2
+cast-number-2 c = let b = bound (c .before .before .before) in omega arith
+
+mul-number-3 : tie.Need-mul-number-3
+mul-number-3 c = let b = bound (c .before .before .before) in omega arith
+
+mul-number-4 : tie.Need-mul-number-4
+mul-number-4 c = let b = bound (c .before .before .before .before) in omega arith
+
+cast-number-3 : tie.Need-cast-number-3
+cast-number-3 c = let b = bound (c .before .before .before .before) in omega arith
+
+add-number-2 : tie.Need-add-number-2
+add-number-2 c = let b = bound (c .before .before .before .before) in omega arith
+
+cast-at : tie.Need-cast-at
+cast-at c = search needs
+
+mul-at : tie.Need-mul-at
+mul-at c = let b = bound (c .before .before .before .before) in omega arith
+
+returns : tie.Need-returns
+returns c =
+    let l = c .before .before .before .before .before in
+    let g = grouped l in
+    let s = entry g in
+    channel-columns (s .args .layout) (sizes s) (s .args .run) (s .pre .1) (g .before .before .element-bytes .result) (s .args .run .group * g .group-size .result) (l .before .before .before .group-kernels .result) (l .least .result)
+    (g .before .before .element-bytes .ensures) (first-is g) (l .before .before .before .group-kernels .ensures) (channels-is l) (c .if1 .taken)
+
+mul-t12 : tie.Need-mul-t12
+mul-t12 c = let b = bound (c .before .before .before .before .before) in omega arith
+
+mul-t13 : tie.Need-mul-t13
+mul-t13 c = let b = bound (c .before .before .before .before .before) in omega arith
+
+returns-2 : tie.Need-returns-2
+returns-2 c =
+    let l = c .before .before .before .before .before in
+    let g = grouped l in
+    let s = entry g in
+    pixel-columns (s .args .layout) (sizes s) (s .args .run) (s .pre .1) (g .before .before .element-bytes .result) (s .args .run .group * g .group-size .result) (l .before .before .before .group-kernels .result) (l .least .result)
+    (g .before .before .element-bytes .ensures) (first-is g) (l .before .before .before .group-kernels .ensures) (channels-is l) (c .if1 .left)
+
+pub place-spec : {M : Type 1} → statement M
+place-spec =
+    tie.close
+    (tie.spec
+    element-bytes-requires
+    mul-pixels
+    group-size-requires
+    mul-first
+    group-kernels-requires
+    mul-channel
+    sub-least
+    least-requires
+    add-from
+    mul-from
+    add-from-2
+    cast-from
+    cast-from-2
+    mul-from-2
+    mul-number
+    mul-number-2
+    add-number
+    cast-number
+    cast-number-2
+    mul-number-3
+    mul-number-4
+    cast-number-3
+    add-number-2
+    cast-at
+    mul-at
+    returns
+    mul-t12
+    mul-t13
+    returns-2)

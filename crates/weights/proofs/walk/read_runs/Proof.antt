@@ -1,0 +1,111 @@
+-- `weights::walk::read_runs` meets its contract. The loop's invariant: the elements come nearer to the raw weights, and those of all runs before the
+-- walk's are read. The measure is the walk's rank. Assumes nothing.
+use Prim.Native.Nat.{ℕ, _-_, _*_, _^_, _≤_, _<_}
+use native.Mathlib.Nat.{mul-le-mul}
+use native.Mathlib.Omega.{arith}
+use mathlib.Core.Path.{_≡_, ap, _∙_, subst}
+use lib.ListN.{length}
+use Rattle.columns.specs.declared.ColumnBlock.{ColumnBlock}
+use Rattle.columns.specs.Blocks.{blockRead}
+use Rattle.weights.specs.Steps.{AtRun, rankOf}
+use Rattle.weights.proofs.CallLaws.{Admitted, admitted}
+use Rattle.weights.proofs.NumberLaws.{groupSize-le}
+use Rattle.weights.proofs.RunLaws.{next-less}
+use Rattle.weights.proofs.ReadLaws.{Reading, read-first, read-next, read-done}
+use borrow.Author.Needs.{needs}
+use Rattle.weights.proofs.walk.read_runs.Statement.{statement}
+use Rattle.weights.proofs.walk.read_runs.Tie as tie
+
+abbrev Inv-loop : tie.InvT-loop
+Inv-loop layout buffer elements₀ size run₀ elements run = Reading layout buffer elements₀ elements run
+
+abbrev μ-loop : tie.MeasureT-loop
+μ-loop layout buffer elements₀ size run₀ elements run = 2 ^ 25 - rankOf run
+
+abbrev entry : tie.At-loop Inv-loop μ-loop → tie.Start Inv-loop μ-loop
+entry c = c .before .before .before
+
+abbrev head : tie.Then1 Inv-loop μ-loop → tie.At-loop Inv-loop μ-loop
+head c = c .before .before .before
+
+abbrev turn : tie.After-elements Inv-loop μ-loop → tie.Then1 Inv-loop μ-loop
+turn c = c .before .before .before .before
+
+adm : (c : tie.Start Inv-loop μ-loop) → Admitted (c .args .layout) (length (c .args .elements .now)) (length (c .args .buffer .now))
+adm c = admitted (c .args .layout) (length (c .args .elements .now)) (length (c .args .buffer .now)) (c .pre)
+
+-- in a turn the walk stands at a run
+run-at : (c : tie.Then1 Inv-loop μ-loop) → AtRun (entry (head c) .args .layout) (head c .loop .run)
+run-at c =
+    let h = head c in
+    h .loop .inv .at (subst (λ (n : ℕ). h .loop .run .group * n < entry h .args .layout .kernels) (h .before .group-size .ensures) (c .if1 .taken))
+
+group-size-requires : tie.Need-group-size-requires Inv-loop μ-loop
+group-size-requires c κs = search needs
+
+loop-holds : tie.Need-loop-holds Inv-loop μ-loop
+loop-holds c =
+    let s = c .before .before in
+    let a = s .args in
+    read-first (a .layout) (a .buffer .now) (adm s .layout) (a .elements .now)
+
+mul-if1 : tie.Need-mul-if1 Inv-loop μ-loop
+mul-if1 c =
+    let h = c .before in
+    let size : h .before .group-size .result ≤ 32 = omega (arith, h .before .group-size .ensures, groupSize-le (entry h .args .layout .precision)) in
+    omega (arith, mul-le-mul {n₂ = 8192} {m₂ = 32} (h .loop .inv .group-le) size)
+
+place-requires : tie.Need-place-requires Inv-loop μ-loop
+place-requires c κs = (adm (entry (head c)) .sizes, run-at c)
+
+read-requires : tie.Need-read-requires Inv-loop μ-loop
+read-requires c κs = search needs
+
+next-requires : tie.Need-next-requires Inv-loop μ-loop
+next-requires c κs = let t = turn c in (adm (entry (head t)) .sizes, run-at t)
+
+loop-less : tie.Need-loop-less Inv-loop μ-loop
+loop-less c =
+    let t = turn (c .before) in
+    let h = head t in
+    let s = entry h in
+    next-less (s .args .layout) (adm s .layout) (h .loop .run) (c .next .result) (run-at t) (c .next .ensures)
+
+loop-again : tie.Need-loop-again Inv-loop μ-loop
+loop-again c =
+    let w = c .before .before in
+    let p = w .before .before in
+    let t = p .before in
+    let l = head t .loop in
+    let s = entry (head t) in
+    let a = s .args in
+    read-next (a .layout) (a .buffer .now) (adm s .layout) (adm s .room) (a .elements .now) (adm s .count) (l .run) (c .next .result)
+    (run-at t) (l .inv) (w .read .ensures ∙ ap (λ (k : ColumnBlock). blockRead k (a .buffer .now) (l .elements)) (p .place .ensures)) (c .next .ensures)
+
+same-length : tie.Need-same-length Inv-loop μ-loop
+same-length c = c .before .before .before .loop .inv .toward .long
+
+returns : tie.Need-returns Inv-loop μ-loop
+returns c =
+    let h = c .before .before .before in
+    let s = entry h in
+    let a = s .args in
+    read-done (a .layout) (a .buffer .now) (adm s .layout) (a .elements .now) (adm s .count) (h .loop .run) (h .loop .elements)
+    (subst (λ (n : ℕ). a .layout .kernels ≤ h .loop .run .group * n) (h .before .group-size .ensures) (c .if1 .left)) (h .loop .inv)
+
+pub read-runs-spec : {M : Type 1} → statement M
+read-runs-spec =
+    tie.close
+    (tie.spec
+    Inv-loop
+    μ-loop
+    group-size-requires
+    loop-holds
+    mul-if1
+    place-requires
+    read-requires
+    next-requires
+    loop-less
+    loop-again
+    same-length
+    returns)

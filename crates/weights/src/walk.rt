@@ -1,0 +1,143 @@
+// The walk over the runs of a weight tensor: by group, in it by block, in it by kernel. A run is one kernel's channels of one block at all
+// pixels, written and read as one block of columns.
+ghost use mathlib.Core.Path.{_≡_};
+ghost use mathlib.Core.Bool.{true};
+ghost use Prim.Native.Nat.{_*_, _<_, min};
+ghost use lib.ListN.{length};
+ghost use Rattle.refusal.specs.declared.Answer.the-variants.{Accepted};
+ghost use Rattle.refusal.specs.Checks.{inOrder};
+ghost use Rattle.weights.specs.Geometry.{groupSize, groupOf, groupKernels};
+ghost use Rattle.weights.specs.Rules.{sizesTaken, weightChecks};
+ghost use Rattle.weights.specs.Contents.{unpacked};
+ghost use Rattle.weights.specs.Steps.{AtRun, NextRun, runColumns, written};
+use crate::WeightLayout;
+use columns::ColumnBlock;
+
+// Group, channel block, and kernel in the group.
+pub(crate) struct Run {
+    pub(crate) group: u32,
+    pub(crate) block: u32,
+    pub(crate) kernel: u32,
+}
+
+// Kernels of a full group.
+fn group_size(precision: u32) -> u32
+    ensures { λ r. ⌜ r ≡ groupSize precision ⌝ }
+{
+    if precision == 0 { 32 } else { 16 }
+}
+
+// The lesser of two numbers.
+fn least(a: u32, b: u32) -> u32
+    ensures { λ r. ⌜ r ≡ min a b ⌝ }
+{
+    if b < a { b } else { a }
+}
+
+// Kernels of a group.
+fn group_kernels(layout: WeightLayout, group: u32) -> u32
+    requires { ⌜ (sizesTaken layout ≡ true) × (group * groupOf layout < layout .kernels) ⌝ }
+    ensures { λ r. ⌜ r ≡ groupKernels layout group ⌝ }
+{
+    let size = group_size(layout.precision);
+    least(size, layout.kernels - group * size)
+}
+
+// The columns of a run.
+fn place(layout: WeightLayout, run: Run) -> ColumnBlock
+    requires { ⌜ sizesTaken layout ≡ true ⌝ }
+    requires { ⌜ AtRun layout run ⌝ }
+    ensures { λ r. ⌜ r ≡ runColumns layout run ⌝ }
+{
+    let size = elements::element_bytes(layout.precision);
+    let pixels = layout.rows * layout.columns;
+    let first = run.group * group_size(layout.precision);
+    let kernels = group_kernels(layout, run.group);
+    let channel = run.block * 64;
+    let channels = least(64, layout.channels - channel);
+    let from = ((first + run.kernel) * layout.channels + channel) as usize * pixels as usize;
+    let number = (first * layout.channels + channel * kernels) as usize * pixels as usize
+        + (run.kernel * channels) as usize;
+    let at = number * size as usize;
+    if pixels == 1 {
+        return ColumnBlock {
+            size,
+            rows: 1,
+            count: channels,
+            from,
+            plane: channels,
+            at,
+            stride: size,
+        };
+    }
+    ColumnBlock {
+        size,
+        rows: channels,
+        count: pixels,
+        from,
+        plane: pixels,
+        at,
+        stride: kernels * channels * size,
+    }
+}
+
+// The run behind a run; behind the last one its group has no kernels.
+fn next(layout: WeightLayout, run: Run) -> Run
+    requires { ⌜ sizesTaken layout ≡ true ⌝ }
+    requires { ⌜ AtRun layout run ⌝ }
+    ensures { λ r. ⌜ NextRun layout run r ⌝ }
+{
+    if run.kernel + 1 < group_kernels(layout, run.group) {
+        return Run {
+            group: run.group,
+            block: run.block,
+            kernel: run.kernel + 1,
+        };
+    }
+    if (run.block + 1) * 64 < layout.channels {
+        return Run {
+            group: run.group,
+            block: run.block + 1,
+            kernel: 0,
+        };
+    }
+    Run {
+        group: run.group + 1,
+        block: 0,
+        kernel: 0,
+    }
+}
+
+// Writes all runs: the bytes of every element.
+pub(crate) fn write_runs(layout: WeightLayout, elements: &[i16], buffer: &mut [u8])
+    requires { ⌜ inOrder (weightChecks layout (length (now elements)) (length (now buffer))) ≡ Accepted ⌝ }
+    ensures { λ _. ⌜ now (buffer .exit) ≡ written layout (now (elements .entry)) (now (buffer .entry)) ⌝ }
+{
+    let size = group_size(layout.precision);
+    let mut run = Run {
+        group: 0,
+        block: 0,
+        kernel: 0,
+    };
+    while run.group * size < layout.kernels {
+        columns::write(place(layout, run), elements, buffer);
+        run = next(layout, run);
+    }
+}
+
+// Reads all runs: every element.
+pub(crate) fn read_runs(layout: WeightLayout, buffer: &[u8], elements: &mut [i16])
+    requires { ⌜ inOrder (weightChecks layout (length (now elements)) (length (now buffer))) ≡ Accepted ⌝ }
+    ensures { λ _. ⌜ now (elements .exit) ≡ unpacked layout (now (buffer .entry)) ⌝ }
+{
+    let size = group_size(layout.precision);
+    let mut run = Run {
+        group: 0,
+        block: 0,
+        kernel: 0,
+    };
+    while run.group * size < layout.kernels {
+        columns::read(place(layout, run), buffer, elements);
+        run = next(layout, run);
+    }
+}
