@@ -1,13 +1,13 @@
--- Bounds of counts, positions and products of sizes, all within 64 bits: a full tensor has 2 ^ 36 elements and 2 ^ 37 bytes. By the products of
+-- Bounds of counts and products of sizes, all within 64 bits: a full tensor has 2 ^ 36 elements and 2 ^ 37 bytes. By the products of
 -- the largest sizes. Assumes nothing.
---     pixels-le, count-le, bytes-le, surface-le     counts
---     kernel-width-le, group-small, group-le, index-le     one kernel's elements; a group; a tile's first kernel and its raw index
+--     pixels-le, channels-product-le, rows-product-le, count-le, bytes-le     counts
+--     group-small     a group
 use Prim.Native.Nat.{ℕ, _+_, _*_, _^_, _≤_, _<_}
 use native.Mathlib.Nat.{mul-le-mul, le-mul-of-pos-right}
 use native.Mathlib.Omega.{arith}
 use Rattle.elements.proofs.ByteLaws.{elementBytes-le}
 use Rattle.weights.specs.declared.WeightLayout.{WeightLayout}
-use Rattle.weights.specs.Geometry.{sizeOf, groupOf, elementCount, surfaceBytes}
+use Rattle.weights.specs.Geometry.{sizeOf, groupOf, elementCount}
 use Rattle.weights.proofs.Taken.{Taken}
 use Rattle.weights.proofs.NumberLaws.{groupSize-pos}
 
@@ -28,20 +28,5 @@ module _ (q : WeightLayout) (ok : Taken q) where
   pub bytes-le : elementCount q * sizeOf q ≤ 2 ^ 37
   bytes-le = mul-le-mul {n₂ = 2 ^ 36} {m₂ = 2} count-le (elementBytes-le (q .precision))
 
-  pub surface-le : surfaceBytes q ≤ 2 ^ 37
-  unfolding surfaceBytes
-  surface-le = omega (arith, bytes-le)
-
-  pub kernel-width-le : q .channels * (q .rows * q .columns) ≤ 2 ^ 23
-  kernel-width-le = mul-le-mul {n₂ = 8192} {m₂ = 1024} (ok .channels .most-le) pixels-le
-
   pub group-small : (g : ℕ) → g * groupOf q < q .kernels → g < 8192
   group-small g h = omega (arith, ok .kernels .most-le, le-mul-of-pos-right g (groupSize-pos (q .precision)))
-
-  -- the first kernel of a group, in channels, and then in elements
-  module _ (g b : ℕ) (hg : g * groupOf q < q .kernels) (hb : b * 64 < q .channels) where
-    pub group-le : g * groupOf q * q .channels ≤ 2 ^ 26
-    group-le = mul-le-mul {n₂ = 8192} {m₂ = 8192} (omega (arith, ok .kernels .most-le)) (ok .channels .most-le)
-
-    pub index-le : (g * groupOf q * q .channels + b * 64) * (q .rows * q .columns) ≤ 2 ^ 37
-    index-le = mul-le-mul {n₂ = 2 ^ 27} {m₂ = 1024} (omega (arith, group-le, ok .channels .most-le)) pixels-le

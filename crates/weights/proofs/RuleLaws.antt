@@ -1,5 +1,4 @@
--- The rules and the order of checks 1, 2, 6, 5 as the code goes through them, one test after another. Assumes nothing.
---     sizes-kernels .. sizes-columns        the four sizes
+-- The order of checks 1, 2, 6, 5 as the code goes through them, one test after another. Assumes nothing.
 --     check-sizes .. check-taken            the checks
 use Prim.Native.Nat.{ℕ, _≤_, _<_}
 use mathlib.Core.Path.{_≡_, sym, _∙_}
@@ -14,27 +13,7 @@ use Rattle.refusal.specs.Checks.{inOrder, require}
 use Rattle.refusal.proofs.CheckLaws.{inOrder-nil, inOrder-next, inOrder-stop}
 use Rattle.weights.specs.declared.WeightLayout.{WeightLayout}
 use Rattle.weights.specs.Geometry.{elementCount, surfaceBytes}
-use Rattle.refusal.specs.Sizes.{sizeTaken}
 use Rattle.weights.specs.Rules.{sizesTaken, weightChecks}
-
-module _ (q : WeightLayout) where
-  pub sizes-kernels : sizeTaken 8192 (q .kernels) ≡ false → false ≡ sizesTaken q
-  unfolding sizesTaken
-  sizes-kernels e = rw e
-
-  module _ (k : sizeTaken 8192 (q .kernels) ≡ true) where
-    pub sizes-channels : sizeTaken 8192 (q .channels) ≡ false → false ≡ sizesTaken q
-    unfolding sizesTaken
-    sizes-channels e = rw (k, e)
-
-    module _ (c : sizeTaken 8192 (q .channels) ≡ true) where
-      pub sizes-rows : sizeTaken 32 (q .rows) ≡ false → false ≡ sizesTaken q
-      unfolding sizesTaken
-      sizes-rows e = rw (k, c, e)
-
-      pub sizes-columns : sizeTaken 32 (q .rows) ≡ true → sizeTaken 32 (q .columns) ≡ sizesTaken q
-      unfolding sizesTaken
-      sizes-columns r = rw (k, c, r)
 
 module _ (q : WeightLayout) (given len : ℕ) where
   r4 : List Answer

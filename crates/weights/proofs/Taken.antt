@@ -4,8 +4,6 @@
 use Prim.Native.Nat.{ℕ, _≤_, _<_}
 use mathlib.Core.Path.{_≡_}
 use mathlib.Core.Bool.{true, _&&_}
-use lib.Dec.{leb}
-use borrow.Author.Tests.{leb-true}
 use Rattle.refusal.proofs.TestLaws.{and-left, and-right}
 use Rattle.weights.specs.declared.WeightLayout.{WeightLayout}
 use Rattle.refusal.specs.Sizes.{sizeTaken}

@@ -3,7 +3,7 @@
 --     RunHas                               a run whose elements have reached the goal
 --     Walked, walked-first, walked-next    the walk stands at a run
 --     walked-all                           behind the last run
-use Prim.Native.Nat.{ℕ, _+_, _*_, _/_, _%_, _≤_, _<_}
+use Prim.Native.Nat.{ℕ, _*_, _/_, _%_, _≤_, _<_}
 use native.Mathlib.Nat.{eq-or-lt-of-le, lt-of-mul-lt-mul-right}
 use native.Mathlib.Omega.{arith}
 use mathlib.Core.Path.{_≡_, sym, ap, _∙_, subst}

@@ -1,7 +1,9 @@
 // Direct-convolution weights, packed and read back (scope paper, "Weights").
 mod measure;
+mod read;
 mod rules;
 mod walk;
+mod write;
 
 ghost use mathlib.Core.Path.{_≡_};
 ghost use lib.ListN.{length};
@@ -51,9 +53,10 @@ pub fn pack(layout: WeightLayout, elements: &[i16], buffer: &mut [u8]) -> Answer
     let Answer::Accepted = v else {
         return v;
     };
-    walk::write_runs(layout, elements, buffer);
+    write::runs(layout, elements, buffer);
     let end = measure::weight_bytes(layout) as usize;
-    columns::clear(end, measure::surface_bytes(layout) as usize - end, buffer);
+    let whole = measure::surface_bytes(layout) as usize;
+    columns::clear(end, whole - end, buffer);
     Answer::Accepted
 }
 
@@ -66,6 +69,6 @@ pub fn unpack(layout: WeightLayout, buffer: &[u8], elements: &mut [i16]) -> Answ
     let Answer::Accepted = a else {
         return a;
     };
-    walk::read_runs(layout, buffer, elements);
+    read::runs(layout, buffer, elements);
     Answer::Accepted
 }

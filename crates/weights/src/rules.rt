@@ -7,14 +7,8 @@ use crate::WeightLayout;
 pub(crate) fn sizes_taken(layout: WeightLayout) -> bool
     ensures { λ r. ⌜ r ≡ sizesTaken layout ⌝ }
 {
-    if !refusal::size_taken(8192, layout.kernels) {
-        return false;
-    }
-    if !refusal::size_taken(8192, layout.channels) {
-        return false;
-    }
-    if !refusal::size_taken(32, layout.rows) {
-        return false;
-    }
-    refusal::size_taken(32, layout.columns)
+    refusal::size_taken(8192, layout.kernels)
+        & refusal::size_taken(8192, layout.channels)
+        & refusal::size_taken(32, layout.rows)
+        & refusal::size_taken(32, layout.columns)
 }

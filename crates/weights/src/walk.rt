@@ -3,13 +3,9 @@
 ghost use mathlib.Core.Path.{_≡_};
 ghost use mathlib.Core.Bool.{true};
 ghost use Prim.Native.Nat.{_*_, _<_, min};
-ghost use lib.ListN.{length};
-ghost use Rattle.refusal.specs.declared.Answer.the-variants.{Accepted};
-ghost use Rattle.refusal.specs.Checks.{inOrder};
 ghost use Rattle.weights.specs.Geometry.{groupSize, groupOf, groupKernels};
-ghost use Rattle.weights.specs.Rules.{sizesTaken, weightChecks};
-ghost use Rattle.weights.specs.Contents.{unpacked};
-ghost use Rattle.weights.specs.Steps.{AtRun, NextRun, runColumns, written};
+ghost use Rattle.weights.specs.Rules.{sizesTaken};
+ghost use Rattle.weights.specs.Steps.{AtRun, NextRun, runColumns};
 use crate::WeightLayout;
 use columns::ColumnBlock;
 
@@ -21,7 +17,7 @@ pub(crate) struct Run {
 }
 
 // Kernels of a full group.
-fn group_size(precision: u32) -> u32
+pub(crate) fn group_size(precision: u32) -> u32
     ensures { λ r. ⌜ r ≡ groupSize precision ⌝ }
 {
     if precision == 0 { 32 } else { 16 }
@@ -44,7 +40,7 @@ fn group_kernels(layout: WeightLayout, group: u32) -> u32
 }
 
 // The columns of a run.
-fn place(layout: WeightLayout, run: Run) -> ColumnBlock
+pub(crate) fn place(layout: WeightLayout, run: Run) -> ColumnBlock
     requires { ⌜ sizesTaken layout ≡ true ⌝ }
     requires { ⌜ AtRun layout run ⌝ }
     ensures { λ r. ⌜ r ≡ runColumns layout run ⌝ }
@@ -82,7 +78,7 @@ fn place(layout: WeightLayout, run: Run) -> ColumnBlock
 }
 
 // The run behind a run; behind the last one its group has no kernels.
-fn next(layout: WeightLayout, run: Run) -> Run
+pub(crate) fn next(layout: WeightLayout, run: Run) -> Run
     requires { ⌜ sizesTaken layout ≡ true ⌝ }
     requires { ⌜ AtRun layout run ⌝ }
     ensures { λ r. ⌜ NextRun layout run r ⌝ }
@@ -105,39 +101,5 @@ fn next(layout: WeightLayout, run: Run) -> Run
         group: run.group + 1,
         block: 0,
         kernel: 0,
-    }
-}
-
-// Writes all runs: the bytes of every element.
-pub(crate) fn write_runs(layout: WeightLayout, elements: &[i16], buffer: &mut [u8])
-    requires { ⌜ inOrder (weightChecks layout (length (now elements)) (length (now buffer))) ≡ Accepted ⌝ }
-    ensures { λ _. ⌜ now (buffer .exit) ≡ written layout (now (elements .entry)) (now (buffer .entry)) ⌝ }
-{
-    let size = group_size(layout.precision);
-    let mut run = Run {
-        group: 0,
-        block: 0,
-        kernel: 0,
-    };
-    while run.group * size < layout.kernels {
-        columns::write(place(layout, run), elements, buffer);
-        run = next(layout, run);
-    }
-}
-
-// Reads all runs: every element.
-pub(crate) fn read_runs(layout: WeightLayout, buffer: &[u8], elements: &mut [i16])
-    requires { ⌜ inOrder (weightChecks layout (length (now elements)) (length (now buffer))) ≡ Accepted ⌝ }
-    ensures { λ _. ⌜ now (elements .exit) ≡ unpacked layout (now (buffer .entry)) ⌝ }
-{
-    let size = group_size(layout.precision);
-    let mut run = Run {
-        group: 0,
-        block: 0,
-        kernel: 0,
-    };
-    while run.group * size < layout.kernels {
-        columns::read(place(layout, run), buffer, elements);
-        run = next(layout, run);
     }
 }

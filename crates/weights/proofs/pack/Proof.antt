@@ -69,8 +69,8 @@ returns-2 c =
     let p = pack-outside (a .layout) (a .elements .now) (a .buffer .now) (passed d) (sym (v .check-values .ensures) ∙ refused) in
     (refused ∙ p .0, p .1)
 
-write-runs-requires : tie.Need-write-runs-requires
-write-runs-requires c κs = passed (c .before .before .before .before)
+runs-requires : tie.Need-runs-requires
+runs-requires c κs = passed (c .before .before .before .before)
 
 weight-bytes-requires : tie.Need-weight-bytes-requires
 weight-bytes-requires c κs = adm (checked c) .sizes
@@ -99,7 +99,7 @@ returns-3 c =
     let q = a .layout in
     let p = pack-taken q (a .elements .now) (a .buffer .now) (passed d) (values (written-at w)) in (
       p .0,
-      write-packed q (a .elements .now) (a .buffer .now) (adm d .room) (b .before .weight-bytes .ensures) (b .surface-bytes .ensures) (w .before .before .write-runs .ensures) (f .clear .ensures)
+      write-packed q (a .elements .now) (a .buffer .now) (adm d .room) (b .before .weight-bytes .ensures) (b .surface-bytes .ensures) (w .before .before .runs .ensures) (f .clear .ensures)
           ∙ p .1,
     )
 
@@ -115,7 +115,7 @@ pack-spec =
     enum-told-3
     enum-told-4
     returns-2
-    write-runs-requires
+    runs-requires
     weight-bytes-requires
     surface-bytes-requires
     sub-clear

@@ -32,8 +32,8 @@ returns c =
     let p = unpack-refused (a .layout) (a .buffer .now) (a .elements .now) (sym (d .check .ensures) ∙ refused) in
     (refused ∙ p .0, p .1)
 
-read-runs-requires : tie.Need-read-runs-requires
-read-runs-requires c κs = passed (c .before)
+runs-requires : tie.Need-runs-requires
+runs-requires c κs = passed (c .before)
 
 same-length : tie.Need-same-length
 same-length c = search needs
@@ -43,7 +43,7 @@ returns-2 c =
     let d = c .before .before .before in
     let a = d .before .before .before .before .args in
     let p = unpack-taken (a .layout) (a .buffer .now) (a .elements .now) (passed d) in
-    (p .0, c .before .read-runs .ensures ∙ p .1)
+    (p .0, c .before .runs .ensures ∙ p .1)
 
 pub unpack-spec : {M : Type 1} → statement M
 unpack-spec =
@@ -53,6 +53,6 @@ unpack-spec =
     enum-told
     enum-told-2
     returns
-    read-runs-requires
+    runs-requires
     same-length
     returns-2)

@@ -1,9 +1,9 @@
--- `weights::walk::read_runs` meets its contract. The loop's invariant: the elements come nearer to the raw weights, and those of all runs before the
+-- `weights::read::runs` meets its contract. The loop's invariant: the elements come nearer to the raw weights, and those of all runs before the
 -- walk's are read. The measure is the walk's rank. Assumes nothing.
 use Prim.Native.Nat.{ℕ, _-_, _*_, _^_, _≤_, _<_}
 use native.Mathlib.Nat.{mul-le-mul}
 use native.Mathlib.Omega.{arith}
-use mathlib.Core.Path.{_≡_, ap, _∙_, subst}
+use mathlib.Core.Path.{ap, _∙_, subst}
 use lib.ListN.{length}
 use Rattle.columns.specs.declared.ColumnBlock.{ColumnBlock}
 use Rattle.columns.specs.Blocks.{blockRead}
@@ -13,8 +13,8 @@ use Rattle.weights.proofs.NumberLaws.{groupSize-le}
 use Rattle.weights.proofs.RunLaws.{next-less}
 use Rattle.weights.proofs.ReadLaws.{Reading, read-first, read-next, read-done}
 use borrow.Author.Needs.{needs}
-use Rattle.weights.proofs.walk.read_runs.Statement.{statement}
-use Rattle.weights.proofs.walk.read_runs.Tie as tie
+use Rattle.weights.proofs.read.runs.Statement.{statement}
+use Rattle.weights.proofs.read.runs.Tie as tie
 
 abbrev Inv-loop : tie.InvT-loop
 Inv-loop layout buffer elements₀ size run₀ elements run = Reading layout buffer elements₀ elements run
@@ -93,8 +93,8 @@ returns c =
     read-done (a .layout) (a .buffer .now) (adm s .layout) (a .elements .now) (adm s .count) (h .loop .run) (h .loop .elements)
     (subst (λ (n : ℕ). a .layout .kernels ≤ h .loop .run .group * n) (h .before .group-size .ensures) (c .if1 .left)) (h .loop .inv)
 
-pub read-runs-spec : {M : Type 1} → statement M
-read-runs-spec =
+pub runs-spec : {M : Type 1} → statement M
+runs-spec =
     tie.close
     (tie.spec
     Inv-loop

@@ -1,9 +1,9 @@
--- `weights::walk::write_runs` meets its contract. The loop's invariant: the buffer comes nearer to what it is to be, and the bytes of all runs
+-- `weights::write::runs` meets its contract. The loop's invariant: the buffer comes nearer to what it is to be, and the bytes of all runs
 -- before the walk's are written. The measure is the walk's rank. Assumes nothing.
 use Prim.Native.Nat.{ℕ, _-_, _*_, _^_, _≤_, _<_}
 use native.Mathlib.Nat.{mul-le-mul}
 use native.Mathlib.Omega.{arith}
-use mathlib.Core.Path.{_≡_, ap, _∙_, subst}
+use mathlib.Core.Path.{ap, _∙_, subst}
 use lib.ListN.{length}
 use Rattle.columns.specs.declared.ColumnBlock.{ColumnBlock}
 use Rattle.columns.specs.Blocks.{blockWritten}
@@ -13,8 +13,8 @@ use Rattle.weights.proofs.NumberLaws.{groupSize-le}
 use Rattle.weights.proofs.RunLaws.{next-less}
 use Rattle.weights.proofs.WriteLaws.{Writing, write-first, write-next, write-done}
 use borrow.Author.Needs.{needs}
-use Rattle.weights.proofs.walk.write_runs.Statement.{statement}
-use Rattle.weights.proofs.walk.write_runs.Tie as tie
+use Rattle.weights.proofs.write.runs.Statement.{statement}
+use Rattle.weights.proofs.write.runs.Tie as tie
 
 abbrev Inv-loop : tie.InvT-loop
 Inv-loop layout elements buffer₀ size run₀ buffer run =
@@ -94,8 +94,8 @@ returns c =
     write-done (a .layout) (a .elements .now) (a .buffer .now) (adm s .room) (adm s .layout) (h .loop .run) (h .loop .buffer)
     (subst (λ (n : ℕ). a .layout .kernels ≤ h .loop .run .group * n) (h .before .group-size .ensures) (c .if1 .left)) (h .loop .inv)
 
-pub write-runs-spec : {M : Type 1} → statement M
-write-runs-spec =
+pub runs-spec : {M : Type 1} → statement M
+runs-spec =
     tie.close
     (tie.spec
     Inv-loop
