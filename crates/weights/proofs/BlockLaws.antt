@@ -4,13 +4,15 @@
 use Prim.Native.Nat.{ℕ, _+_, _*_, _^_, _≤_}
 use native.Mathlib.Nat.{mul-le-mul}
 use native.Mathlib.Omega.{arith}
-use mathlib.Core.Path.{_≡_}
+use mathlib.Core.Bool.{cond}
+use mathlib.Core.Path.{_≡_, _∙_}
+use lib.Dec.{leb}
 use borrow.Author.Tests.{eq-eqb, ne-eqb}
 use Rattle.elements.proofs.ByteLaws.{elementBytes-le}
 use Rattle.weights.specs.declared.WeightLayout.{WeightLayout}
 use Rattle.weights.specs.declared.walk.Run.{Run}
 use Rattle.weights.specs.Geometry.{sizeOf, groupOf, groupKernels, blockChannels}
-use Rattle.weights.specs.Steps.{pixelNumber, pixelIndex, AtRun, runColumns}
+use Rattle.weights.specs.Steps.{pixelNumber, pixelIndex, AtRun, widthOf, runColumns}
 use Rattle.weights.proofs.Taken.{Taken}
 use Rattle.weights.proofs.NumberLaws.{groupSize-le}
 use Rattle.weights.proofs.BoundLaws.{pixels-le}
@@ -34,7 +36,7 @@ module _ (q : WeightLayout) (ok : Taken q) (x : Run) (a : AtRun q x) (size first
   pub run-bounds : Bounds q x size first kernels channels
   unfolding groupKernels blockChannels
   run-bounds =
-      let s = run-small q ok x a in
+      let s = run-small q ok x (a .here) in
       let p = pixels-le q ok in
       let kernel : first + x .kernel ≤ 2 ^ 13 = omega (arith, ef, s .kernel-in, ok .kernels .most-le) in
       let few : kernels ≤ 32 = omega (arith, en, groupSize-le (q .precision)) in
@@ -68,28 +70,33 @@ module _ (q : WeightLayout) (ok : Taken q) (x : Run) (a : AtRun q x) (size first
   unfolding pixelNumber
   at-is = rw (ef, en, em, es) (omega arith)
 
-  pub channel-columns : q .rows * q .columns ≡ 1
-      → record {
-        size = size;
-        rows = 1;
-        count = channels;
-        from = ((first + x .kernel) * q .channels + x .block * 64) * (q .rows * q .columns);
-        plane = channels;
-        at = ((first * q .channels + x .block * 64 * kernels) * (q .rows * q .columns) + x .kernel * channels) * size;
-        stride = size;
-      } ≡ runColumns q x
-  unfolding runColumns
-  channel-columns one = rw (eq-eqb (q .rows * q .columns) 1 one, from-is, at-is, em, es)
+  module _ (width : ℕ) (ew : width ≡ cond (leb (q .channels) 64) (kernels * channels) channels) where
+    width-is : width ≡ widthOf q x
+    unfolding widthOf
+    width-is = ew ∙ rw (en, em)
 
-  pub pixel-columns : (q .rows * q .columns ≡ 1 → ⊥)
-      → record {
-        size = size;
-        rows = channels;
-        count = q .rows * q .columns;
-        from = ((first + x .kernel) * q .channels + x .block * 64) * (q .rows * q .columns);
-        plane = q .rows * q .columns;
-        at = ((first * q .channels + x .block * 64 * kernels) * (q .rows * q .columns) + x .kernel * channels) * size;
-        stride = kernels * channels * size;
-      } ≡ runColumns q x
-  unfolding runColumns
-  pixel-columns more = rw (ne-eqb (q .rows * q .columns) 1 more, from-is, at-is, en, em, es)
+    pub channel-columns : q .rows * q .columns ≡ 1
+        → record {
+          size = size;
+          rows = 1;
+          count = width;
+          from = ((first + x .kernel) * q .channels + x .block * 64) * (q .rows * q .columns);
+          plane = width;
+          at = ((first * q .channels + x .block * 64 * kernels) * (q .rows * q .columns) + x .kernel * channels) * size;
+          stride = size;
+        } ≡ runColumns q x
+    unfolding runColumns
+    channel-columns one = rw (eq-eqb (q .rows * q .columns) 1 one, from-is, at-is, width-is, es)
+
+    pub pixel-columns : (q .rows * q .columns ≡ 1 → ⊥)
+        → record {
+          size = size;
+          rows = width;
+          count = q .rows * q .columns;
+          from = ((first + x .kernel) * q .channels + x .block * 64) * (q .rows * q .columns);
+          plane = q .rows * q .columns;
+          at = ((first * q .channels + x .block * 64 * kernels) * (q .rows * q .columns) + x .kernel * channels) * size;
+          stride = kernels * channels * size;
+        } ≡ runColumns q x
+    unfolding runColumns
+    pixel-columns more = rw (ne-eqb (q .rows * q .columns) 1 more, from-is, at-is, width-is, en, em, es)

@@ -18,11 +18,11 @@ use Rattle.weights.specs.declared.WeightLayout.{WeightLayout}
 use Rattle.weights.specs.declared.walk.Run.{Run}
 use Rattle.weights.specs.Geometry.{sizeOf, groupOf, elementCount, surfaceBytes, rawAt, numberAt}
 use Rattle.weights.specs.Contents.{unpacked}
-use Rattle.weights.specs.Steps.{pixelNumber, AtRun, NextRun, runColumns}
+use Rattle.weights.specs.Steps.{AtRun, NextRun, runColumns}
 use Rattle.weights.proofs.Taken.{Taken}
 use Rattle.weights.proofs.IndexLaws.{rawAt-lt, numberAt-lt, numberAt-rawAt, rawAt-numberAt}
 use Rattle.weights.proofs.SurfaceLaws.{surface-ge}
-use Rattle.weights.proofs.CellLaws.{Holds, run-holds, holds-fits, cell-number, cell-index}
+use Rattle.weights.proofs.CellLaws.{Holds, run-holds, holds-fits}
 use Rattle.weights.proofs.WalkLaws.{RunHas, Walked, walked-first, walked-next, walked-all}
 
 module _ (q : WeightLayout) (buffer : List ℕ) where
@@ -60,18 +60,16 @@ module _ (q : WeightLayout) (buffer : List ℕ) where
           → (let k = runColumns q x in
           elementAt (k .size) buffer (k .at + k .stride * i + r * k .size) ≡ getD (unpacked q buffer) (k .from + k .plane * r + i) (pos 0))
       same r i hr hi =
-          let k = runColumns q x in
           let w = held .each i r hi hr in
-          ap₂ (λ (e p : ℕ). elementAt e buffer p) (held .size-is) (w .2 .byte)
-          ∙ element (pixelNumber q (x .group) (x .block) (w .0) (x .kernel) (w .1)) (cell-number q ok x a k i r (w .0) (w .1) (w .2))
-          ∙ ap (λ (p : ℕ). getD (unpacked q buffer) p (pos 0)) (sym (cell-index q ok x a k i r (w .0) (w .1) (w .2)))
+          ap₂ (λ (e p : ℕ). elementAt e buffer p) (held .size-is) (w .1 .byte)
+          ∙ element (w .0) (w .1 .number-lt)
+          ∙ ap (λ (p : ℕ). getD (unpacked q buffer) p (pos 0)) (sym (w .1 .index))
 
       read-has : RunHas q (pos 0) (unpacked q buffer) Read x (blockRead (runColumns q x) buffer l)
-      read-has t c ht hc =
-          let k = runColumns q x in
-          let w = held .all t c ht hc in
-          subst (λ (p : ℕ). getD (blockRead k buffer l) p (pos 0) ≡ getD (unpacked q buffer) p (pos 0)) (cell-index q ok x a k (w .0) (w .1) t c (w .2))
-          (block-read-reached k buffer (unpacked q buffer) l fits (held .wide) same (w .1) (w .0) (w .2 .row-lt) (w .2 .column-lt))
+      read-has j of t c ht hc =
+          let w = held .all j t c of ht hc in
+          subst (λ (p : ℕ). getD (blockRead (runColumns q x) buffer l) p (pos 0) ≡ getD (unpacked q buffer) p (pos 0)) (w .2 .index)
+          (block-read-reached (runColumns q x) buffer (unpacked q buffer) l fits (held .wide) same (w .1) (w .0) (w .2 .row-lt) (w .2 .column-lt))
 
     -- a turn of the walk
     pub read-next : surfaceBytes q ≤ length buffer → (before : List ℤ) → length before ≡ elementCount q → (x y : Run) {l l′ : List ℤ} → AtRun q x

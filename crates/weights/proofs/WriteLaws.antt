@@ -26,10 +26,10 @@ use Rattle.weights.specs.declared.WeightLayout.{WeightLayout}
 use Rattle.weights.specs.declared.walk.Run.{Run}
 use Rattle.weights.specs.Geometry.{sizeOf, groupOf, elementCount, surfaceBytes, rawAt}
 use Rattle.weights.specs.Contents.{packed}
-use Rattle.weights.specs.Steps.{pixelNumber, AtRun, NextRun, runColumns, written}
+use Rattle.weights.specs.Steps.{AtRun, NextRun, runColumns, written}
 use Rattle.weights.proofs.Taken.{Taken}
 use Rattle.weights.proofs.SurfaceLaws.{surface-ge, byte-within, packed-length, packed-at, packed-byte, packed-fill, packed-past}
-use Rattle.weights.proofs.CellLaws.{Holds, run-holds, holds-fits, cell-number, cell-index}
+use Rattle.weights.proofs.CellLaws.{Holds, run-holds, holds-fits}
 use Rattle.weights.proofs.WalkLaws.{RunHas, Walked, walked-first, walked-next, walked-all}
 
 module _ (q : WeightLayout) (raw : List ℤ) (before : List ℕ) where
@@ -81,18 +81,16 @@ module _ (q : WeightLayout) (raw : List ℤ) (before : List ℕ) where
       same r i b hr hi hb =
           let k = runColumns q x in
           let w = held .each i r hi hr in
-          let n = pixelNumber q (x .group) (x .block) (w .0) (x .kernel) (w .1) in
-          let source : k .from + i + r * k .plane ≡ rawAt q n = omega (arith, cell-index q ok x a k i r (w .0) (w .1) (w .2)) in
+          let source : k .from + i + r * k .plane ≡ rawAt q (w .0) = omega (arith, w .1 .index) in
           ap (λ (j : ℕ). byteOf (getD raw j (pos 0)) b) source
-          ∙ element-byte n b (cell-number q ok x a k i r (w .0) (w .1) (w .2)) (omega (arith, held .size-is))
-          ∙ ap (λ (p : ℕ). getD (written q raw before) (p + b) 0) (sym (w .2 .byte))
+          ∙ element-byte (w .0) b (w .1 .number-lt) (omega (arith, held .size-is))
+          ∙ ap (λ (p : ℕ). getD (written q raw before) (p + b) 0) (sym (w .1 .byte))
 
       write-has : RunHas q 0 (written q raw before) Written x (blockWritten (runColumns q x) raw l)
-      write-has t c ht hc b hb =
-          let k = runColumns q x in
-          let w = held .all t c ht hc in
-          subst (λ (p : ℕ). getD (blockWritten k raw l) (p + b) 0 ≡ getD (written q raw before) (p + b) 0) (w .2 .byte)
-          (block-written-reached k raw (written q raw before) l fits same (w .1) (w .0) b (w .2 .row-lt) (w .2 .column-lt) (omega (arith, held .size-is)))
+      write-has j of t c ht hc b hb =
+          let w = held .all j t c of ht hc in
+          subst (λ (p : ℕ). getD (blockWritten (runColumns q x) raw l) (p + b) 0 ≡ getD (written q raw before) (p + b) 0) (w .2 .byte)
+          (block-written-reached (runColumns q x) raw (written q raw before) l fits same (w .1) (w .0) b (w .2 .row-lt) (w .2 .column-lt) (omega (arith, held .size-is)))
 
     -- a turn of the walk
     pub write-next : (ok : Taken q) → length raw ≡ elementCount q → (x y : Run) {l l′ : List ℕ} → AtRun q x → Writing l x

@@ -1,9 +1,11 @@
--- How the code walks the elements: by runs, each one kernel's channels of one block at all pixels, written and read as one block of columns; and
--- what the runs leave of a buffer. This file only describes the code's own steps: no public promise rests on it. Assumes nothing.
+-- How the code walks the elements: by runs, each one kernel's channels of one block at all pixels, or all kernels of a group where the tensor has
+-- one block. A run is written and read as one block of columns; and what the runs leave of a buffer. This file only describes the code's own steps: no public promise rests on it. Assumes nothing.
 use Prim.Native.Nat.{ℕ, _+_, _*_, _≤_, _<_}
 use mathlib.Core.Bool.{cond}
+use mathlib.Core.Path.{_≡_}
+use mathlib.Core.Logic.{_⊎_}
 use mathlib.Core.List.{List}
-use lib.Dec.{ltb, eqb}
+use lib.Dec.{leb, ltb, eqb}
 use lib.IntN.{ℤ}
 use Rattle.elements.specs.Lists.{remade}
 use Rattle.columns.specs.declared.ColumnBlock.{ColumnBlock}
@@ -26,11 +28,22 @@ pixelIndex q g b t j d = ((g * groupOf q + j) * q .channels + (b * 64 + d)) * (q
 
 -- ---- runs
 
--- a run of the tensor
-pub record AtRun (q : WeightLayout) (x : Run) : Type 0 where
+-- one kernel's channels of one block, one of the tensor's
+pub record AtKernel (q : WeightLayout) (x : Run) : Type 0 where
   pub group-lt : x .group * groupOf q < q .kernels
   pub block-lt : x .block * 64 < q .channels
   pub kernel-lt : x .kernel < groupKernels q (x .group)
+
+-- a run of the walk begins there: where the tensor has one block, with the first kernel of its group
+pub record AtRun (q : WeightLayout) (x : Run) : Type 0 where
+  pub here : AtKernel q x
+  pub first : q .channels ≤ 64 → x .kernel ≡ 0
+
+-- z is of the run that begins with x: the run's one kernel, and where the tensor has one block, any kernel of the group
+pub record InRun (q : WeightLayout) (x z : Run) : Type 0 where
+  pub group-is : z .group ≡ x .group
+  pub block-is : z .block ≡ x .block
+  pub kernel-is : 64 < q .channels → z .kernel ≡ x .kernel
 
 -- the order of the walk, by group, block and kernel: a tensor has at most 128 blocks, a group at most 32 kernels
 abbrev pub rankOf : Run → ℕ
@@ -39,16 +52,20 @@ rankOf x = (x .group * 128 + x .block) * 32 + x .kernel
 -- the run y comes behind the run x with none between them, or x was the last
 pub record NextRun (q : WeightLayout) (x y : Run) : Type 0 where
   pub later : rankOf x < rankOf y
-  pub between : (z : Run) → AtRun q z → rankOf z < rankOf y → rankOf z ≤ rankOf x
+  pub between : (z : Run) → AtKernel q z → rankOf z < rankOf y → (rankOf z < rankOf x) ⊎ InRun q x z
   pub group-le : y .group ≤ x .group + 1
   pub at : y .group * groupOf q < q .kernels → AtRun q y
 
--- the columns of a run: a column for each pixel, in it the block's channels side by side
+-- the channels of a run: those of its kernels, one behind another
+unfoldable pub widthOf : WeightLayout → Run → ℕ
+widthOf q x = cond (leb (q .channels) 64) (groupKernels q (x .group) * blockChannels q (x .block)) (blockChannels q (x .block))
+
+-- the columns of a run: a column for each pixel, in it the run's channels side by side
 abbrev pub pixelColumns : WeightLayout → Run → ColumnBlock
 pixelColumns q x =
     record {
       size = sizeOf q;
-      rows = blockChannels q (x .block);
+      rows = widthOf q x;
       count = q .rows * q .columns;
       from = pixelIndex q (x .group) (x .block) 0 (x .kernel) 0;
       plane = q .rows * q .columns;
@@ -62,9 +79,9 @@ channelColumns q x =
     record {
       size = sizeOf q;
       rows = 1;
-      count = blockChannels q (x .block);
+      count = widthOf q x;
       from = pixelIndex q (x .group) (x .block) 0 (x .kernel) 0;
-      plane = blockChannels q (x .block);
+      plane = widthOf q x;
       at = pixelNumber q (x .group) (x .block) 0 (x .kernel) 0 * sizeOf q;
       stride = sizeOf q;
     }

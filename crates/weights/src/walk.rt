@@ -1,15 +1,16 @@
 // The walk over the runs of a weight tensor: by group, in it by block, in it by kernel. A run is one kernel's channels of one block at all
-// pixels, written and read as one block of columns.
+// pixels, or, where there is one block, all kernels of a group; it is written and read as one block of columns.
 ghost use mathlib.Core.Path.{_≡_};
-ghost use mathlib.Core.Bool.{true};
-ghost use Prim.Native.Nat.{_*_, _<_, min};
+ghost use mathlib.Core.Bool.{true, cond};
+ghost use Prim.Native.Nat.{_*_, _<_, _≤_, min};
+ghost use lib.Dec.{leb};
 ghost use Rattle.weights.specs.Geometry.{groupSize, groupOf, groupKernels};
 ghost use Rattle.weights.specs.Rules.{sizesTaken};
 ghost use Rattle.weights.specs.Steps.{AtRun, NextRun, runColumns};
 use crate::WeightLayout;
 use columns::ColumnBlock;
 
-// Group, channel block, and kernel in the group.
+// Group, channel block, and first kernel in the group.
 pub(crate) struct Run {
     pub(crate) group: u32,
     pub(crate) block: u32,
@@ -39,6 +40,17 @@ fn group_kernels(layout: WeightLayout, group: u32) -> u32
     least(size, layout.kernels - group * size)
 }
 
+// Channels of a run: those of one kernel, or where there is one block, of all kernels of the group.
+fn run_width(layout: WeightLayout, kernels: u32, channels: u32) -> u32
+    requires { ⌜ kernels * channels ≤ 2048 ⌝ }
+    ensures { λ r. ⌜ r ≡ cond (leb (layout .channels) 64) (kernels * channels) channels ⌝ }
+{
+    if layout.channels <= 64 {
+        return kernels * channels;
+    }
+    channels
+}
+
 // The columns of a run.
 pub(crate) fn place(layout: WeightLayout, run: Run) -> ColumnBlock
     requires { ⌜ sizesTaken layout ≡ true ⌝ }
@@ -51,6 +63,7 @@ pub(crate) fn place(layout: WeightLayout, run: Run) -> ColumnBlock
     let kernels = group_kernels(layout, run.group);
     let channel = run.block * 64;
     let channels = least(64, layout.channels - channel);
+    let width = run_width(layout, kernels, channels);
     let from = ((first + run.kernel) * layout.channels + channel) as usize * pixels as usize;
     let number = (first * layout.channels + channel * kernels) as usize * pixels as usize
         + (run.kernel * channels) as usize;
@@ -59,16 +72,16 @@ pub(crate) fn place(layout: WeightLayout, run: Run) -> ColumnBlock
         return ColumnBlock {
             size,
             rows: 1,
-            count: channels,
+            count: width,
             from,
-            plane: channels,
+            plane: width,
             at,
             stride: size,
         };
     }
     ColumnBlock {
         size,
-        rows: channels,
+        rows: width,
         count: pixels,
         from,
         plane: pixels,
@@ -83,6 +96,14 @@ pub(crate) fn next(layout: WeightLayout, run: Run) -> Run
     requires { ⌜ AtRun layout run ⌝ }
     ensures { λ r. ⌜ NextRun layout run r ⌝ }
 {
+    let behind = Run {
+        group: run.group + 1,
+        block: 0,
+        kernel: 0,
+    };
+    if layout.channels <= 64 {
+        return behind;
+    }
     if run.kernel + 1 < group_kernels(layout, run.group) {
         return Run {
             group: run.group,
@@ -97,9 +118,5 @@ pub(crate) fn next(layout: WeightLayout, run: Run) -> Run
             kernel: 0,
         };
     }
-    Run {
-        group: run.group + 1,
-        block: 0,
-        kernel: 0,
-    }
+    behind
 }

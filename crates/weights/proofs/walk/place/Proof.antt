@@ -47,10 +47,10 @@ group-size-requires : tie.Need-group-size-requires
 group-size-requires c κs = search needs
 
 mul-first : tie.Need-mul-first
-mul-first c = let s = entry (c .before) in omega (arith, first-is (c .before), s .pre .1 .group-lt, sizes s .kernels .most-le)
+mul-first c = let s = entry (c .before) in omega (arith, first-is (c .before), s .pre .1 .here .group-lt, sizes s .kernels .most-le)
 
 group-kernels-requires : tie.Need-group-kernels-requires
-group-kernels-requires c κs = (entry (c .before) .pre .0, entry (c .before) .pre .1 .group-lt)
+group-kernels-requires c κs = (entry (c .before) .pre .0, entry (c .before) .pre .1 .here .group-lt)
 
 mul-channel : tie.Need-mul-channel
 mul-channel c = search needs
@@ -61,78 +61,83 @@ sub-least c = search needs
 least-requires : tie.Need-least-requires
 least-requires c κs = search needs
 
+run-width-requires : tie.Need-run-width-requires
+run-width-requires c κs = bound c .pixel
+
 add-from : tie.Need-add-from
-add-from c = let b = bound (c .before) in omega arith
+add-from c = let b = bound (c .before .before) in omega arith
 
 mul-from : tie.Need-mul-from
-mul-from c = let b = bound (c .before .before) in omega arith
+mul-from c = let b = bound (c .before .before .before) in omega arith
 
 add-from-2 : tie.Need-add-from-2
-add-from-2 c = let b = bound (c .before .before) in omega arith
+add-from-2 c = let b = bound (c .before .before .before) in omega arith
 
 cast-from : tie.Need-cast-from
-cast-from c = let b = bound (c .before .before) in omega arith
+cast-from c = let b = bound (c .before .before .before) in omega arith
 
 cast-from-2 : tie.Need-cast-from-2
-cast-from-2 c = let b = bound (c .before .before) in omega arith
+cast-from-2 c = let b = bound (c .before .before .before) in omega arith
 
 mul-from-2 : tie.Need-mul-from-2
-mul-from-2 c = let b = bound (c .before .before) in omega arith
+mul-from-2 c = let b = bound (c .before .before .before) in omega arith
 
 mul-number : tie.Need-mul-number
-mul-number c = let b = bound (c .before .before .before) in omega arith
+mul-number c = let b = bound (c .before .before .before .before) in omega arith
 
 mul-number-2 : tie.Need-mul-number-2
-mul-number-2 c = let b = bound (c .before .before .before) in omega arith
+mul-number-2 c = let b = bound (c .before .before .before .before) in omega arith
 
 add-number : tie.Need-add-number
-add-number c = let b = bound (c .before .before .before) in omega arith
+add-number c = let b = bound (c .before .before .before .before) in omega arith
 
 cast-number : tie.Need-cast-number
-cast-number c = let b = bound (c .before .before .before) in omega arith
+cast-number c = let b = bound (c .before .before .before .before) in omega arith
 
 cast-number-2 : tie.Need-cast-number-2
-cast-number-2 c = let b = bound (c .before .before .before) in omega arith
+cast-number-2 c = let b = bound (c .before .before .before .before) in omega arith
 
 mul-number-3 : tie.Need-mul-number-3
-mul-number-3 c = let b = bound (c .before .before .before) in omega arith
+mul-number-3 c = let b = bound (c .before .before .before .before) in omega arith
 
 mul-number-4 : tie.Need-mul-number-4
-mul-number-4 c = let b = bound (c .before .before .before .before) in omega arith
+mul-number-4 c = let b = bound (c .before .before .before .before .before) in omega arith
 
 cast-number-3 : tie.Need-cast-number-3
-cast-number-3 c = let b = bound (c .before .before .before .before) in omega arith
+cast-number-3 c = let b = bound (c .before .before .before .before .before) in omega arith
 
 add-number-2 : tie.Need-add-number-2
-add-number-2 c = let b = bound (c .before .before .before .before) in omega arith
+add-number-2 c = let b = bound (c .before .before .before .before .before) in omega arith
 
 cast-at : tie.Need-cast-at
 cast-at c = search needs
 
 mul-at : tie.Need-mul-at
-mul-at c = let b = bound (c .before .before .before .before) in omega arith
+mul-at c = let b = bound (c .before .before .before .before .before) in omega arith
 
 returns : tie.Need-returns
 returns c =
-    let l = c .before .before .before .before .before in
+    let w = c .before .before .before .before .before in
+    let l = w .before in
     let g = grouped l in
     let s = entry g in
     channel-columns (s .args .layout) (sizes s) (s .args .run) (s .pre .1) (g .before .before .element-bytes .result) (s .args .run .group * g .group-size .result) (l .before .before .before .group-kernels .result) (l .least .result)
-    (g .before .before .element-bytes .ensures) (first-is g) (l .before .before .before .group-kernels .ensures) (channels-is l) (c .if1 .taken)
-
-mul-t12 : tie.Need-mul-t12
-mul-t12 c = let b = bound (c .before .before .before .before .before) in omega arith
+    (g .before .before .element-bytes .ensures) (first-is g) (l .before .before .before .group-kernels .ensures) (channels-is l) (w .run-width .result) (w .run-width .ensures) (c .if1 .taken)
 
 mul-t13 : tie.Need-mul-t13
-mul-t13 c = let b = bound (c .before .before .before .before .before) in omega arith
+mul-t13 c = let b = bound (c .before .before .before .before .before .before) in omega arith
+
+mul-t14 : tie.Need-mul-t14
+mul-t14 c = let b = bound (c .before .before .before .before .before .before) in omega arith
 
 returns-2 : tie.Need-returns-2
 returns-2 c =
-    let l = c .before .before .before .before .before in
+    let w = c .before .before .before .before .before in
+    let l = w .before in
     let g = grouped l in
     let s = entry g in
     pixel-columns (s .args .layout) (sizes s) (s .args .run) (s .pre .1) (g .before .before .element-bytes .result) (s .args .run .group * g .group-size .result) (l .before .before .before .group-kernels .result) (l .least .result)
-    (g .before .before .element-bytes .ensures) (first-is g) (l .before .before .before .group-kernels .ensures) (channels-is l) (c .if1 .left)
+    (g .before .before .element-bytes .ensures) (first-is g) (l .before .before .before .group-kernels .ensures) (channels-is l) (w .run-width .result) (w .run-width .ensures) (c .if1 .left)
 
 pub place-spec : {M : Type 1} → statement M
 place-spec =
@@ -146,6 +151,7 @@ place-spec =
     mul-channel
     sub-least
     least-requires
+    run-width-requires
     add-from
     mul-from
     add-from-2
@@ -164,6 +170,6 @@ place-spec =
     cast-at
     mul-at
     returns
-    mul-t12
     mul-t13
+    mul-t14
     returns-2)
