@@ -1,5 +1,6 @@
 -- The block of columns of a run as the code computes it: the definition's, and its products within 64 bits. Assumes nothing.
---     Bounds, run-bounds                 the products
+--     Numbers                            the code's numbers are the definition's
+--     Bounds, run-bounds                 its products
 --     channel-columns, pixel-columns     the block
 use Prim.Native.Nat.{ℕ, _+_, _*_, _^_, _≤_}
 use native.Mathlib.Nat.{mul-le-mul}
@@ -31,17 +32,23 @@ pub record Bounds (q : WeightLayout) (x : Run) (size first kernels channels : �
   pub pixel : kernels * channels ≤ 2 ^ 11
   pub stride : kernels * channels * size ≤ 2 ^ 12
 
-module _ (q : WeightLayout) (ok : Taken q) (x : Run) (a : AtRun q x) (size first kernels channels : ℕ)
-    (es : size ≡ sizeOf q) (ef : first ≡ x .group * groupOf q) (en : kernels ≡ groupKernels q (x .group)) (em : channels ≡ blockChannels q (x .block)) where
+-- the code's numbers
+pub record Numbers (q : WeightLayout) (x : Run) (size first kernels channels : ℕ) : Type 0 where
+  pub size-is : size ≡ sizeOf q
+  pub first-is : first ≡ x .group * groupOf q
+  pub kernels-is : kernels ≡ groupKernels q (x .group)
+  pub channels-is : channels ≡ blockChannels q (x .block)
+
+module _ (q : WeightLayout) (ok : Taken q) (x : Run) (a : AtRun q x) {size first kernels channels : ℕ} (n : Numbers q x size first kernels channels) where
   pub run-bounds : Bounds q x size first kernels channels
   unfolding groupKernels blockChannels
   run-bounds =
       let s = run-small q ok x (a .here) in
       let p = pixels-le q ok in
-      let kernel : first + x .kernel ≤ 2 ^ 13 = omega (arith, ef, s .kernel-in, ok .kernels .most-le) in
-      let few : kernels ≤ 32 = omega (arith, en, groupSize-le (q .precision)) in
-      let some : channels ≤ 64 = omega (arith, em) in
-      let low : size ≤ 2 = omega (arith, es, elementBytes-le (q .precision)) in
+      let kernel : first + x .kernel ≤ 2 ^ 13 = omega (arith, n .first-is, s .kernel-in, ok .kernels .most-le) in
+      let few : kernels ≤ 32 = omega (arith, n .kernels-is, groupSize-le (q .precision)) in
+      let some : channels ≤ 64 = omega (arith, n .channels-is) in
+      let low : size ≤ 2 = omega (arith, n .size-is, elementBytes-le (q .precision)) in
       let source : (first + x .kernel) * q .channels + x .block * 64 ≤ 2 ^ 27 = omega (arith, mul-le-mul {n₂ = 2 ^ 13} {m₂ = 2 ^ 13} kernel (ok .channels .most-le), s .block-lt) in
       let group = mul-le-mul {n₁ = first} {n₂ = 2 ^ 13} {m₂ = 2 ^ 13} (omega arith) (ok .channels .most-le) in
       let block : first * q .channels + x .block * 64 * kernels ≤ 2 ^ 27 = omega (arith, group, mul-le-mul {n₁ = x .block * 64} {n₂ = 2 ^ 13} {m₂ = 2 ^ 5} (omega (arith, s .block-lt)) few) in
@@ -63,17 +70,17 @@ module _ (q : WeightLayout) (ok : Taken q) (x : Run) (a : AtRun q x) (size first
 
   from-is : ((first + x .kernel) * q .channels + x .block * 64) * (q .rows * q .columns) ≡ pixelIndex q (x .group) (x .block) 0 (x .kernel) 0
   unfolding pixelIndex
-  from-is = rw ef (omega arith)
+  from-is = rw (n .first-is) (omega arith)
 
   at-is : ((first * q .channels + x .block * 64 * kernels) * (q .rows * q .columns) + x .kernel * channels) * size
       ≡ pixelNumber q (x .group) (x .block) 0 (x .kernel) 0 * sizeOf q
   unfolding pixelNumber
-  at-is = rw (ef, en, em, es) (omega arith)
+  at-is = rw (n .first-is, n .kernels-is, n .channels-is, n .size-is) (omega arith)
 
-  module _ (width : ℕ) (ew : width ≡ cond (leb (q .channels) 64) (kernels * channels) channels) where
+  module _ {width : ℕ} (ew : width ≡ cond (leb (q .channels) 64) (kernels * channels) channels) where
     width-is : width ≡ widthOf q x
     unfolding widthOf
-    width-is = ew ∙ rw (en, em)
+    width-is = ew ∙ rw (n .kernels-is, n .channels-is)
 
     pub channel-columns : q .rows * q .columns ≡ 1
         → record {
@@ -86,7 +93,7 @@ module _ (q : WeightLayout) (ok : Taken q) (x : Run) (a : AtRun q x) (size first
           stride = size;
         } ≡ runColumns q x
     unfolding runColumns
-    channel-columns one = rw (eq-eqb (q .rows * q .columns) 1 one, from-is, at-is, width-is, es)
+    channel-columns one = rw (eq-eqb (q .rows * q .columns) 1 one, from-is, at-is, width-is, n .size-is)
 
     pub pixel-columns : (q .rows * q .columns ≡ 1 → ⊥)
         → record {
@@ -99,4 +106,4 @@ module _ (q : WeightLayout) (ok : Taken q) (x : Run) (a : AtRun q x) (size first
           stride = kernels * channels * size;
         } ≡ runColumns q x
     unfolding runColumns
-    pixel-columns more = rw (ne-eqb (q .rows * q .columns) 1 more, from-is, at-is, width-is, en, em, es)
+    pixel-columns more = rw (ne-eqb (q .rows * q .columns) 1 more, from-is, at-is, width-is, n .kernels-is, n .channels-is, n .size-is)

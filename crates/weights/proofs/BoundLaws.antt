@@ -1,8 +1,8 @@
--- Bounds of counts and products of sizes, all within 64 bits: a full tensor has 2 ^ 36 elements and 2 ^ 37 bytes. By the products of
--- the largest sizes. Assumes nothing.
---     pixels-le, channels-product-le, rows-product-le, count-le, bytes-le     counts
+-- Bounds of counts, all within 64 bits: a full tensor has 2 ^ 36 elements and 2 ^ 37 bytes. By the products of the largest sizes. Assumes
+-- nothing.
+--     pixels-le, channels-product-le, count-le, bytes-le     counts
 --     group-small     a group
-use Prim.Native.Nat.{ℕ, _+_, _*_, _^_, _≤_, _<_}
+use Prim.Native.Nat.{ℕ, _*_, _^_, _≤_, _<_}
 use native.Mathlib.Nat.{mul-le-mul, le-mul-of-pos-right}
 use native.Mathlib.Omega.{arith}
 use Rattle.elements.proofs.ByteLaws.{elementBytes-le}
@@ -18,12 +18,9 @@ module _ (q : WeightLayout) (ok : Taken q) where
   pub channels-product-le : q .kernels * q .channels ≤ 2 ^ 26
   channels-product-le = mul-le-mul {n₂ = 8192} {m₂ = 8192} (ok .kernels .most-le) (ok .channels .most-le)
 
-  pub rows-product-le : q .kernels * q .channels * q .rows ≤ 2 ^ 31
-  rows-product-le = mul-le-mul {n₂ = 2 ^ 26} {m₂ = 32} channels-product-le (ok .rows .most-le)
-
   pub count-le : elementCount q ≤ 2 ^ 36
   unfolding elementCount
-  count-le = mul-le-mul {n₂ = 2 ^ 31} {m₂ = 32} rows-product-le (ok .columns .most-le)
+  count-le = omega (arith, mul-le-mul {n₂ = 2 ^ 26} {m₂ = 2 ^ 10} channels-product-le pixels-le)
 
   pub bytes-le : elementCount q * sizeOf q ≤ 2 ^ 37
   bytes-le = mul-le-mul {n₂ = 2 ^ 36} {m₂ = 2} count-le (elementBytes-le (q .precision))

@@ -65,9 +65,9 @@ pub fn unpack(layout: WeightLayout, buffer: &[u8], elements: &mut [i16]) -> Answ
     ensures { λ r. ⌜ r ≡ unpackAnswer layout (length (now (elements .entry))) (length (now (buffer .entry))) ⌝ }
     ensures { λ r. ⌜ now (elements .exit) ≡ unpackElements layout (now (buffer .entry)) (now (elements .entry)) ⌝ }
 {
-    let a = check(layout, elements.len(), buffer.len());
-    let Answer::Accepted = a else {
-        return a;
+    let answer = check(layout, elements.len(), buffer.len());
+    let Answer::Accepted = answer else {
+        return answer;
     };
     read::runs(layout, buffer, elements);
     Answer::Accepted

@@ -11,7 +11,7 @@ pub(crate) fn element_count(layout: WeightLayout) -> u64
     requires { ⌜ sizesTaken layout ≡ true ⌝ }
     ensures { λ r. ⌜ r ≡ elementCount layout ⌝ }
 {
-    layout.kernels as u64 * layout.channels as u64 * layout.rows as u64 * layout.columns as u64
+    (layout.kernels * layout.channels) as u64 * (layout.rows * layout.columns) as u64
 }
 
 // Bytes of all elements.

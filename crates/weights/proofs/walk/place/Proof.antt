@@ -5,7 +5,7 @@ use mathlib.Core.Path.{_≡_, ap}
 use Rattle.weights.specs.Geometry.{groupOf, blockChannels}
 use Rattle.weights.proofs.Taken.{Taken, taken}
 use Rattle.weights.proofs.BoundLaws.{pixels-le}
-use Rattle.weights.proofs.BlockLaws.{Bounds, run-bounds, channel-columns, pixel-columns}
+use Rattle.weights.proofs.BlockLaws.{Numbers, Bounds, run-bounds, channel-columns, pixel-columns}
 use borrow.Author.Needs.{needs}
 use Rattle.weights.proofs.walk.place.Statement.{statement}
 use Rattle.weights.proofs.walk.place.Tie as tie
@@ -23,19 +23,20 @@ sizes c = taken (c .args .layout) (c .pre .0)
 first-is : (c : tie.After-group-size) → entry c .args .run .group * c .group-size .result ≡ entry c .args .run .group * groupOf (entry c .args .layout)
 first-is c = ap (λ (n : ℕ). entry c .args .run .group * n) (c .group-size .ensures)
 
-channels-is : (c : tie.After-least) → (let a = entry (grouped c) .args in c .least .result ≡ blockChannels (a .layout) (a .run .block))
+numbers : (c : tie.After-least)
+    → (let g = grouped c in
+    let a = entry g .args in
+    Numbers (a .layout) (a .run) (g .before .before .element-bytes .result) (a .run .group * g .group-size .result) (c .before .before .before .group-kernels .result) (c .least .result))
 unfolding blockChannels
-channels-is c = c .least .ensures
+numbers c =
+    let g = grouped c in
+    record { size-is = g .before .before .element-bytes .ensures; first-is = first-is g; kernels-is = c .before .before .before .group-kernels .ensures; channels-is = c .least .ensures }
 
 bound : (c : tie.After-least)
     → (let g = grouped c in
-    let s = entry g in
-    Bounds (s .args .layout) (s .args .run) (g .before .before .element-bytes .result) (s .args .run .group * g .group-size .result) (c .before .before .before .group-kernels .result) (c .least .result))
-bound c =
-    let g = grouped c in
-    let s = entry g in
-    run-bounds (s .args .layout) (sizes s) (s .args .run) (s .pre .1) (g .before .before .element-bytes .result) (s .args .run .group * g .group-size .result) (c .before .before .before .group-kernels .result) (c .least .result)
-    (g .before .before .element-bytes .ensures) (first-is g) (c .before .before .before .group-kernels .ensures) (channels-is c)
+    let a = entry g .args in
+    Bounds (a .layout) (a .run) (g .before .before .element-bytes .result) (a .run .group * g .group-size .result) (c .before .before .before .group-kernels .result) (c .least .result))
+bound c = let s = entry (grouped c) in run-bounds (s .args .layout) (sizes s) (s .args .run) (s .pre .1) (numbers c)
 
 element-bytes-requires : tie.Need-element-bytes-requires
 element-bytes-requires c κs = search needs
@@ -118,11 +119,8 @@ mul-at c = let b = bound (c .before .before .before .before .before) in omega ar
 returns : tie.Need-returns
 returns c =
     let w = c .before .before .before .before .before in
-    let l = w .before in
-    let g = grouped l in
-    let s = entry g in
-    channel-columns (s .args .layout) (sizes s) (s .args .run) (s .pre .1) (g .before .before .element-bytes .result) (s .args .run .group * g .group-size .result) (l .before .before .before .group-kernels .result) (l .least .result)
-    (g .before .before .element-bytes .ensures) (first-is g) (l .before .before .before .group-kernels .ensures) (channels-is l) (w .run-width .result) (w .run-width .ensures) (c .if1 .taken)
+    let s = entry (grouped (w .before)) in
+    channel-columns (s .args .layout) (sizes s) (s .args .run) (s .pre .1) (numbers (w .before)) (w .run-width .ensures) (c .if1 .taken)
 
 mul-t13 : tie.Need-mul-t13
 mul-t13 c = let b = bound (c .before .before .before .before .before .before) in omega arith
@@ -133,11 +131,8 @@ mul-t14 c = let b = bound (c .before .before .before .before .before .before) in
 returns-2 : tie.Need-returns-2
 returns-2 c =
     let w = c .before .before .before .before .before in
-    let l = w .before in
-    let g = grouped l in
-    let s = entry g in
-    pixel-columns (s .args .layout) (sizes s) (s .args .run) (s .pre .1) (g .before .before .element-bytes .result) (s .args .run .group * g .group-size .result) (l .before .before .before .group-kernels .result) (l .least .result)
-    (g .before .before .element-bytes .ensures) (first-is g) (l .before .before .before .group-kernels .ensures) (channels-is l) (w .run-width .result) (w .run-width .ensures) (c .if1 .left)
+    let s = entry (grouped (w .before)) in
+    pixel-columns (s .args .layout) (sizes s) (s .args .run) (s .pre .1) (numbers (w .before)) (w .run-width .ensures) (c .if1 .left)
 
 pub place-spec : {M : Type 1} → statement M
 place-spec =
