@@ -1,15 +1,13 @@
 -- Bounds of counts, all within 64 bits: a full tensor has 2 ^ 36 elements and 2 ^ 37 bytes. By the products of the largest sizes. Assumes
 -- nothing.
 --     pixels-le, channels-product-le, count-le, bytes-le     counts
---     group-small     a group
-use Prim.Native.Nat.{ℕ, _*_, _^_, _≤_, _<_}
-use native.Mathlib.Nat.{mul-le-mul, le-mul-of-pos-right}
+use Prim.Native.Nat.{_*_, _^_, _≤_}
+use native.Mathlib.Nat.{mul-le-mul}
 use native.Mathlib.Omega.{arith}
 use Rattle.elements.proofs.ByteLaws.{elementBytes-le}
 use Rattle.weights.specs.declared.WeightLayout.{WeightLayout}
-use Rattle.weights.specs.Geometry.{sizeOf, groupOf, elementCount}
+use Rattle.weights.specs.Geometry.{sizeOf, elementCount}
 use Rattle.weights.proofs.Taken.{Taken}
-use Rattle.weights.proofs.NumberLaws.{groupSize-pos}
 
 module _ (q : WeightLayout) (ok : Taken q) where
   pub pixels-le : q .rows * q .columns ≤ 1024
@@ -24,6 +22,3 @@ module _ (q : WeightLayout) (ok : Taken q) where
 
   pub bytes-le : elementCount q * sizeOf q ≤ 2 ^ 37
   bytes-le = mul-le-mul {n₂ = 2 ^ 36} {m₂ = 2} count-le (elementBytes-le (q .precision))
-
-  pub group-small : (g : ℕ) → g * groupOf q < q .kernels → g < 8192
-  group-small g h = omega (arith, ok .kernels .most-le, le-mul-of-pos-right g (groupSize-pos (q .precision)))

@@ -16,7 +16,7 @@ use Rattle.columns.proofs.BlockLaws.{BlockFits}
 use Rattle.weights.specs.declared.WeightLayout.{WeightLayout}
 use Rattle.weights.specs.declared.walk.Run.{Run}
 use Rattle.weights.specs.Geometry.{sizeOf, elementCount, groupKernels, blockChannels, rawAt}
-use Rattle.weights.specs.Steps.{pixelNumber, pixelIndex, AtRun, widthOf, runColumns, pixelColumns, channelColumns}
+use Rattle.weights.specs.Steps.{pixelNumber, pixelIndex, groupIn, AtRun, widthOf, runColumns, pixelColumns, channelColumns}
 use Rattle.weights.proofs.Taken.{Taken}
 use Rattle.weights.proofs.NumberLaws.{Place, number-lt, rawAt-pixel}
 use Rattle.weights.proofs.IndexLaws.{rawAt-lt}
@@ -24,12 +24,12 @@ use Rattle.weights.proofs.IndexLaws.{rawAt-lt}
 module _ (q : WeightLayout) (x : Run) where
   -- kernel j of the group is one of the run's
   abbrev pub OfRun : ℕ → Type 0
-  OfRun j = (j < groupKernels q (x .group)) × (64 < q .channels → j ≡ x .kernel)
+  OfRun j = (j < groupKernels q (groupIn q x)) × (64 < q .channels → j ≡ x .kernel)
 
   -- the run's channel r is channel d of kernel j, in both orders
   pub record Row (r j d : ℕ) : Type 0 where
     pub row-lt : r < widthOf q x
-    pub kernel-lt : j < groupKernels q (x .group)
+    pub kernel-lt : j < groupKernels q (groupIn q x)
     pub channel-lt : d < blockChannels q (x .block)
     pub packed : x .kernel * blockChannels q (x .block) + r ≡ j * blockChannels q (x .block) + d
     pub raw : x .kernel * q .channels + r ≡ j * q .channels + d
@@ -51,7 +51,7 @@ module _ (q : WeightLayout) (x : Run) where
     pub wide : k .count ≤ k .plane
     pub each : (i r : ℕ) → i < k .count → r < k .rows → (n : ℕ) × Cell k i r n
     pub all : (j t d : ℕ) → OfRun j → t < q .rows * q .columns → d < blockChannels q (x .block)
-        → (i : ℕ) × (r : ℕ) × Cell k i r (pixelNumber q (x .group) (x .block) t j d)
+        → (i : ℕ) × (r : ℕ) × Cell k i r (pixelNumber q (groupIn q x) (x .block) t j d)
 
 module _ (q : WeightLayout) (ok : Taken q) (x : Run) (a : AtRun q x) where
   some-channels : 0 < blockChannels q (x .block)
@@ -61,7 +61,7 @@ module _ (q : WeightLayout) (ok : Taken q) (x : Run) (a : AtRun q x) where
   -- ---- the channels of a run
 
   module _ (one : q .channels ≤ 64) where
-    width-all : widthOf q x ≡ groupKernels q (x .group) * blockChannels q (x .block)
+    width-all : widthOf q x ≡ groupKernels q (groupIn q x) * blockChannels q (x .block)
     unfolding widthOf
     width-all = rw (le-leb (q .channels) 64 one)
 
@@ -69,15 +69,15 @@ module _ (q : WeightLayout) (ok : Taken q) (x : Run) (a : AtRun q x) where
     unfolding blockChannels
     channels-all = omega (arith, a .here .block-lt)
 
-    whole-row : (r j d : ℕ) → j < groupKernels q (x .group) → d < blockChannels q (x .block) → r ≡ j * blockChannels q (x .block) + d → Row q x r j d
+    whole-row : (r j d : ℕ) → j < groupKernels q (groupIn q x) → d < blockChannels q (x .block) → r ≡ j * blockChannels q (x .block) + d → Row q x r j d
     whole-row r j d hj hd e =
         let m = blockChannels q (x .block) in
         record {
           row-lt = omega (arith, width-all, digits-lt {c = m} hj hd);
           kernel-lt = hj;
           channel-lt = hd;
-          packed = rw (a .first one) (omega (arith, e));
-          raw = rw (a .first one) (omega (arith, e, ap (λ (n : ℕ). j * n) channels-all));
+          packed = rw (a .alone one) (omega (arith, e));
+          raw = rw (a .alone one) (omega (arith, e, ap (λ (n : ℕ). j * n) channels-all));
         }
 
   module _ (more : 64 < q .channels) where
@@ -106,37 +106,37 @@ module _ (q : WeightLayout) (ok : Taken q) (x : Run) (a : AtRun q x) where
   width-pos : 0 < widthOf q x
   width-pos = let w = row-all (x .kernel) 0 (a .here .kernel-lt, λ _. refl) some-channels in omega (arith, w .1 .row-lt)
 
-  width-le : widthOf q x * sizeOf q ≤ groupKernels q (x .group) * blockChannels q (x .block) * sizeOf q
+  width-le : widthOf q x * sizeOf q ≤ groupKernels q (groupIn q x) * blockChannels q (x .block) * sizeOf q
   width-le =
       let m = blockChannels q (x .block) in
-      mul-le-mul-right {m = widthOf q x} {n = groupKernels q (x .group) * m} (sizeOf q)
+      mul-le-mul-right {m = widthOf q x} {n = groupKernels q (groupIn q x) * m} (sizeOf q)
       (elim (decLe (q .channels) 64) [
         | yes one ↦ omega (arith, width-all one)
-        | no f ↦ omega (arith, width-one (omega arith), mul-le-mul-right {m = 1} {n = groupKernels q (x .group)} m (omega (arith, a .here .kernel-lt)))
+        | no f ↦ omega (arith, width-one (omega arith), mul-le-mul-right {m = 1} {n = groupKernels q (groupIn q x)} m (omega (arith, a .here .kernel-lt)))
       ])
 
   -- ---- the columns of a run
 
-  cell : (k : ColumnBlock) (i r t j d : ℕ) → i < k .count → r < k .rows → Place q (x .group) (x .block) t j d
-      → k .at + k .stride * i + r * k .size ≡ pixelNumber q (x .group) (x .block) t j d * sizeOf q
-      → k .from + k .plane * r + i ≡ pixelIndex q (x .group) (x .block) t j d → Cell q x k i r (pixelNumber q (x .group) (x .block) t j d)
+  cell : (k : ColumnBlock) (i r t j d : ℕ) → i < k .count → r < k .rows → Place q (groupIn q x) (x .block) t j d
+      → k .at + k .stride * i + r * k .size ≡ pixelNumber q (groupIn q x) (x .block) t j d * sizeOf q
+      → k .from + k .plane * r + i ≡ pixelIndex q (groupIn q x) (x .block) t j d → Cell q x k i r (pixelNumber q (groupIn q x) (x .block) t j d)
   cell k i r t j d hi hr p byte index =
       record {
         column-lt = hi;
         row-lt = hr;
-        number-lt = number-lt q (x .group) (x .block) t j d p;
+        number-lt = number-lt q (groupIn q x) (x .block) t j d p;
         byte = byte;
-        index = index ∙ sym (rawAt-pixel q (x .group) (x .block) t j d p);
+        index = index ∙ sym (rawAt-pixel q (groupIn q x) (x .block) t j d p);
       }
 
-  pixel-cell : (r t j d : ℕ) → t < q .rows * q .columns → Row q x r j d → Cell q x (pixelColumns q x) t r (pixelNumber q (x .group) (x .block) t j d)
+  pixel-cell : (r t j d : ℕ) → t < q .rows * q .columns → Row q x r j d → Cell q x (pixelColumns q x) t r (pixelNumber q (groupIn q x) (x .block) t j d)
   unfolding pixelNumber pixelIndex
   pixel-cell r t j d ht w =
       cell (pixelColumns q x) t r t j d ht (w .row-lt) (record { pixel-lt = ht; kernel-lt = w .kernel-lt; channel-lt = w .channel-lt })
       (omega (arith, ap (λ (n : ℕ). n * sizeOf q) (w .packed)))
       (omega (arith, ap (λ (n : ℕ). n * (q .rows * q .columns)) (w .raw)))
 
-  channel-cell : (r j d : ℕ) → q .rows * q .columns ≡ 1 → Row q x r j d → Cell q x (channelColumns q x) r 0 (pixelNumber q (x .group) (x .block) 0 j d)
+  channel-cell : (r j d : ℕ) → q .rows * q .columns ≡ 1 → Row q x r j d → Cell q x (channelColumns q x) r 0 (pixelNumber q (groupIn q x) (x .block) 0 j d)
   unfolding pixelNumber pixelIndex
   channel-cell r j d one w =
       cell (channelColumns q x) r 0 0 j d (w .row-lt) (omega arith) (record { pixel-lt = omega (arith, one); kernel-lt = w .kernel-lt; channel-lt = w .channel-lt })
@@ -151,7 +151,7 @@ module _ (q : WeightLayout) (ok : Taken q) (x : Run) (a : AtRun q x) where
         some-columns = mul-pos (ok .rows .some) (ok .columns .some);
         apart = width-le;
         wide = omega arith;
-        each = λ i r hi hr. (let w = row-each r hr in (pixelNumber q (x .group) (x .block) i (w .0) (w .1), pixel-cell r i (w .0) (w .1) hi (w .2)));
+        each = λ i r hi hr. (let w = row-each r hr in (pixelNumber q (groupIn q x) (x .block) i (w .0) (w .1), pixel-cell r i (w .0) (w .1) hi (w .2)));
         all = λ j t d of ht hd. (let w = row-all j d of hd in (t, w .0, pixel-cell (w .0) t j d ht (w .1)));
       }
 
@@ -165,10 +165,10 @@ module _ (q : WeightLayout) (ok : Taken q) (x : Run) (a : AtRun q x) where
         wide = omega arith;
         each = λ i r hi hr. (let w = row-each i hi in
             let z : 0 ≡ r = omega arith in
-            (pixelNumber q (x .group) (x .block) 0 (w .0) (w .1), subst (λ (n : ℕ). Cell q x (channelColumns q x) i n (pixelNumber q (x .group) (x .block) 0 (w .0) (w .1))) z (channel-cell i (w .0) (w .1) one (w .2))));
+            (pixelNumber q (groupIn q x) (x .block) 0 (w .0) (w .1), subst (λ (n : ℕ). Cell q x (channelColumns q x) i n (pixelNumber q (groupIn q x) (x .block) 0 (w .0) (w .1))) z (channel-cell i (w .0) (w .1) one (w .2))));
         all = λ j t d of ht hd. (let w = row-all j d of hd in
             let z : 0 ≡ t = omega (arith, one) in
-            (w .0, 0, subst (λ (n : ℕ). Cell q x (channelColumns q x) (w .0) 0 (pixelNumber q (x .group) (x .block) n j d)) z (channel-cell (w .0) j d one (w .1))));
+            (w .0, 0, subst (λ (n : ℕ). Cell q x (channelColumns q x) (w .0) 0 (pixelNumber q (groupIn q x) (x .block) n j d)) z (channel-cell (w .0) j d one (w .1))));
       }
 
   pub run-holds : Holds q x (runColumns q x)

@@ -16,7 +16,7 @@ use Rattle.columns.proofs.BlockLaws.{BlockFits}
 use Rattle.columns.proofs.TowardLaws.{block-read-toward, block-read-reached}
 use Rattle.weights.specs.declared.WeightLayout.{WeightLayout}
 use Rattle.weights.specs.declared.walk.Run.{Run}
-use Rattle.weights.specs.Geometry.{sizeOf, groupOf, elementCount, surfaceBytes, rawAt, numberAt}
+use Rattle.weights.specs.Geometry.{sizeOf, elementCount, surfaceBytes, rawAt, numberAt}
 use Rattle.weights.specs.Contents.{unpacked}
 use Rattle.weights.specs.Steps.{AtRun, NextRun, runColumns}
 use Rattle.weights.proofs.Taken.{Taken}
@@ -38,7 +38,7 @@ module _ (q : WeightLayout) (buffer : List ℕ) where
   read-kept l₁ l₂ step i e = reached-kept (pos 0) (unpacked q buffer) step (rawAt q i) e
 
   module _ (ok : Taken q) where
-    pub read-first : (before : List ℤ) → Reading before before (record { group = 0; block = 0; kernel = 0 })
+    pub read-first : (before : List ℤ) → Reading before before (record { first = 0; block = 0; kernel = 0 })
     read-first = walked-first q (pos 0) (unpacked q buffer) Read ok
 
     element : (k : ℕ) → k < elementCount q → elementAt (sizeOf q) buffer (k * sizeOf q) ≡ getD (unpacked q buffer) (rawAt q k) (pos 0)
@@ -89,6 +89,6 @@ module _ (q : WeightLayout) (buffer : List ℕ) where
         let hi : i < elementCount q = subst (λ (n : ℕ). i < n) count h in
         subst (λ (j : ℕ). getD l j (pos 0) ≡ getD (unpacked q buffer) j (pos 0)) (rawAt-numberAt q ok i hi) (all (numberAt q i) (numberAt-lt q ok i hi)))
 
-    pub read-done : (before : List ℤ) → length before ≡ elementCount q → (x : Run) (l : List ℤ) → q .kernels ≤ x .group * groupOf q
+    pub read-done : (before : List ℤ) → length before ≡ elementCount q → (x : Run) (l : List ℤ) → q .kernels ≤ x .first
         → Reading before l x → l ≡ unpacked q buffer
     read-done before count x l past w = unpacked-all l (w .toward .long ∙ count) (walked-all q (pos 0) (unpacked q buffer) Read ok x past w)

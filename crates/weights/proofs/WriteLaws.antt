@@ -24,7 +24,7 @@ use Rattle.columns.proofs.TowardLaws.{block-written-toward, block-written-reach
 use Rattle.columns.proofs.ClearLaws.{cleared-length, cleared-in, cleared-out}
 use Rattle.weights.specs.declared.WeightLayout.{WeightLayout}
 use Rattle.weights.specs.declared.walk.Run.{Run}
-use Rattle.weights.specs.Geometry.{sizeOf, groupOf, elementCount, surfaceBytes, rawAt}
+use Rattle.weights.specs.Geometry.{sizeOf, elementCount, surfaceBytes, rawAt}
 use Rattle.weights.specs.Contents.{packed}
 use Rattle.weights.specs.Steps.{AtRun, NextRun, runColumns, written}
 use Rattle.weights.proofs.Taken.{Taken}
@@ -53,7 +53,7 @@ module _ (q : WeightLayout) (raw : List ℤ) (before : List ℕ) where
   abbrev pub Writing : List ℕ → Run → Type 0
   Writing l x = Walked q 0 (written q raw before) Written before l x
 
-  pub write-first : Taken q → Writing before (record { group = 0; block = 0; kernel = 0 })
+  pub write-first : Taken q → Writing before (record { first = 0; block = 0; kernel = 0 })
   write-first ok = walked-first q 0 (written q raw before) Written ok before
 
   written-kept : (l₁ l₂ : List ℕ) → Toward 0 (written q raw before) l₁ l₂ → (i : ℕ) → Written i l₁ → Written i l₂
@@ -114,7 +114,7 @@ module _ (q : WeightLayout) (raw : List ℤ) (before : List ℕ) where
           | no f ↦ ⊎-elim (λ s. s ∙ sym (written-outside p (omega arith) lt)) (λ s. s) (step .each p)
         ])
 
-    pub write-done : (ok : Taken q) (x : Run) (l : List ℕ) → q .kernels ≤ x .group * groupOf q → Writing l x → l ≡ written q raw before
+    pub write-done : (ok : Taken q) (x : Run) (l : List ℕ) → q .kernels ≤ x .first → Writing l x → l ≡ written q raw before
     write-done ok x l past w = written-all l (w .toward) (walked-all q 0 (written q raw before) Written ok x past w)
 
     packed-cleared : cleared (elementCount q * sizeOf q) (surfaceBytes q - elementCount q * sizeOf q) (written q raw before) ≡ packed q raw before

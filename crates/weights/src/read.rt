@@ -14,13 +14,12 @@ pub(crate) fn runs(layout: WeightLayout, buffer: &[u8], elements: &mut [i16])
     requires { ⌜ inOrder (weightChecks layout (length (now elements)) (length (now buffer))) ≡ Accepted ⌝ }
     ensures { λ _. ⌜ now (elements .exit) ≡ unpacked layout (now (buffer .entry)) ⌝ }
 {
-    let size = walk::group_size(layout.precision);
     let mut run = Run {
-        group: 0,
+        first: 0,
         block: 0,
         kernel: 0,
     };
-    while run.group * size < layout.kernels {
+    while run.first < layout.kernels {
         columns::read(walk::place(layout, run), buffer, elements);
         run = walk::next(layout, run);
     }

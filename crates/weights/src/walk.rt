@@ -2,23 +2,23 @@
 // pixels, or, where there is one block, all kernels of a group; it is written and read as one block of columns.
 ghost use mathlib.Core.Path.{_≡_};
 ghost use mathlib.Core.Bool.{true, cond};
-ghost use Prim.Native.Nat.{_*_, _<_, _≤_, min};
+ghost use Prim.Native.Nat.{_-_, _*_, _<_, _≤_, min};
 ghost use lib.Dec.{leb};
-ghost use Rattle.weights.specs.Geometry.{groupSize, groupOf, groupKernels};
+ghost use Rattle.weights.specs.Geometry.{groupSize, groupOf};
 ghost use Rattle.weights.specs.Rules.{sizesTaken};
 ghost use Rattle.weights.specs.Steps.{AtRun, NextRun, runColumns};
 use crate::WeightLayout;
 use columns::ColumnBlock;
 
-// Group, channel block, and first kernel in the group.
+// The first kernel of a group, the channel block, and the run's first kernel in the group.
 pub(crate) struct Run {
-    pub(crate) group: u32,
+    pub(crate) first: u32,
     pub(crate) block: u32,
     pub(crate) kernel: u32,
 }
 
 // Kernels of a full group.
-pub(crate) fn group_size(precision: u32) -> u32
+fn group_size(precision: u32) -> u32
     ensures { λ r. ⌜ r ≡ groupSize precision ⌝ }
 {
     if precision == 0 { 32 } else { 16 }
@@ -31,13 +31,12 @@ fn least(a: u32, b: u32) -> u32
     if b < a { b } else { a }
 }
 
-// Kernels of a group.
-fn group_kernels(layout: WeightLayout, group: u32) -> u32
-    requires { ⌜ (sizesTaken layout ≡ true) × (group * groupOf layout < layout .kernels) ⌝ }
-    ensures { λ r. ⌜ r ≡ groupKernels layout group ⌝ }
+// Kernels of the group that begins with kernel `first`.
+fn group_kernels(layout: WeightLayout, first: u32) -> u32
+    requires { ⌜ first < layout .kernels ⌝ }
+    ensures { λ r. ⌜ r ≡ min (groupOf layout) (layout .kernels - first) ⌝ }
 {
-    let size = group_size(layout.precision);
-    least(size, layout.kernels - group * size)
+    least(group_size(layout.precision), layout.kernels - first)
 }
 
 // Channels of a run: those of one kernel, or where there is one block, of all kernels of the group.
@@ -59,13 +58,12 @@ pub(crate) fn place(layout: WeightLayout, run: Run) -> ColumnBlock
 {
     let size = elements::element_bytes(layout.precision);
     let pixels = layout.rows * layout.columns;
-    let first = run.group * group_size(layout.precision);
-    let kernels = group_kernels(layout, run.group);
+    let kernels = group_kernels(layout, run.first);
     let channel = run.block * 64;
     let channels = least(64, layout.channels - channel);
     let width = run_width(layout, kernels, channels);
-    let from = ((first + run.kernel) * layout.channels + channel) as usize * pixels as usize;
-    let number = (first * layout.channels + channel * kernels) as usize * pixels as usize
+    let from = ((run.first + run.kernel) * layout.channels + channel) as usize * pixels as usize;
+    let number = (run.first * layout.channels + channel * kernels) as usize * pixels as usize
         + (run.kernel * channels) as usize;
     let at = number * size as usize;
     if pixels == 1 {
@@ -97,23 +95,23 @@ pub(crate) fn next(layout: WeightLayout, run: Run) -> Run
     ensures { λ r. ⌜ NextRun layout run r ⌝ }
 {
     let behind = Run {
-        group: run.group + 1,
+        first: run.first + group_size(layout.precision),
         block: 0,
         kernel: 0,
     };
     if layout.channels <= 64 {
         return behind;
     }
-    if run.kernel + 1 < group_kernels(layout, run.group) {
+    if run.kernel + 1 < group_kernels(layout, run.first) {
         return Run {
-            group: run.group,
+            first: run.first,
             block: run.block,
             kernel: run.kernel + 1,
         };
     }
     if (run.block + 1) * 64 < layout.channels {
         return Run {
-            group: run.group,
+            first: run.first,
             block: run.block + 1,
             kernel: 0,
         };

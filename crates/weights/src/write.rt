@@ -14,13 +14,12 @@ pub(crate) fn runs(layout: WeightLayout, elements: &[i16], buffer: &mut [u8])
     requires { ⌜ inOrder (weightChecks layout (length (now elements)) (length (now buffer))) ≡ Accepted ⌝ }
     ensures { λ _. ⌜ now (buffer .exit) ≡ written layout (now (elements .entry)) (now (buffer .entry)) ⌝ }
 {
-    let size = walk::group_size(layout.precision);
     let mut run = Run {
-        group: 0,
+        first: 0,
         block: 0,
         kernel: 0,
     };
-    while run.group * size < layout.kernels {
+    while run.first < layout.kernels {
         columns::write(walk::place(layout, run), elements, buffer);
         run = walk::next(layout, run);
     }

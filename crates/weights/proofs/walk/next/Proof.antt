@@ -2,11 +2,12 @@
 -- there is one block, as the laws of runs do. Assumes nothing.
 use Prim.Native.Nat.{ℕ, _+_, _≤_, _<_}
 use native.Mathlib.Omega.{arith}
-use mathlib.Core.Path.{subst}
-use Rattle.weights.specs.Geometry.{groupKernels}
+use mathlib.Core.Path.{_≡_, _∙_, subst}
+use Rattle.weights.specs.Geometry.{groupOf, groupKernels}
+use Rattle.weights.specs.Steps.{groupIn, NextRun}
 use Rattle.weights.proofs.Taken.{Taken, taken}
-use Rattle.weights.proofs.BoundLaws.{group-small}
-use Rattle.weights.proofs.RunLaws.{Small, run-small, next-whole, next-kernel, next-block, next-group}
+use Rattle.weights.proofs.NumberLaws.{groupSize-le}
+use Rattle.weights.proofs.RunLaws.{Small, run-small, kernels-of, next-whole, next-kernel, next-block, next-group}
 use borrow.Author.Needs.{needs}
 use Rattle.weights.proofs.walk.next.Statement.{statement}
 use Rattle.weights.proofs.walk.next.Tie as tie
@@ -18,25 +19,40 @@ small : (c : tie.Start) → Small (c .args .layout) (sizes c) (c .args .run)
 small c = run-small (c .args .layout) (sizes c) (c .args .run) (c .pre .1 .here)
 
 abbrev entry : tie.Else1 → tie.Start
-entry c = c .before .before .before
+entry c = c .before .before .before .before
+
+kernels-are : (c : tie.After-group-kernels) → (let a = entry (c .before .before) .args in c .group-kernels .result ≡ groupKernels (a .layout) (groupIn (a .layout) (a .run)))
+kernels-are c = let s = entry (c .before .before) in c .group-kernels .ensures ∙ kernels-of (s .args .layout) (sizes s) (s .args .run) (s .pre .1 .here)
 
 -- the kernel is the group's last
-last : (c : tie.Else2) → (let a = entry (c .before .before .before) .args in groupKernels (a .layout) (a .run .group) ≤ a .run .kernel + 1)
-last c = subst (λ (n : ℕ). n ≤ entry (c .before .before .before) .args .run .kernel + 1) (c .before .group-kernels .ensures) (c .if2 .left)
+last : (c : tie.Else2) → (let a = entry (c .before .before .before) .args in groupKernels (a .layout) (groupIn (a .layout) (a .run)) ≤ a .run .kernel + 1)
+last c = subst (λ (n : ℕ). n ≤ entry (c .before .before .before) .args .run .kernel + 1) (kernels-are (c .before)) (c .if2 .left)
+
+-- the next group begins one group's size behind
+behind : (c : tie.After-group-size) → (let a = c .before .args in
+    NextRun (a .layout) (a .run) (record { first = a .run .first + groupOf (a .layout); block = 0; kernel = 0 })
+    → NextRun (a .layout) (a .run) (record { first = a .run .first + c .group-size .result; block = 0; kernel = 0 }))
+behind c n = rw (c .group-size .ensures) n
+
+group-size-requires : tie.Need-group-size-requires
+group-size-requires c κs = search needs
 
 add-if2 : tie.Need-add-if2
 add-if2 c =
-    let s = c .before in
-    omega (arith, group-small (s .args .layout) (sizes s) (s .args .run .group) (s .pre .1 .here .group-lt))
+    let s = c .before .before in
+    omega (arith, c .before .group-size .ensures, groupSize-le (s .args .layout .precision), small s .kernel-in, sizes s .kernels .most-le)
 
 returns : tie.Need-returns
-returns c = let s = c .before .before .before in next-whole (s .args .layout) (sizes s) (s .args .run) (s .pre .1) (c .if1 .taken)
+returns c =
+    let g = c .before .before .before in
+    let s = g .before in
+    behind g (next-whole (s .args .layout) (sizes s) (s .args .run) (s .pre .1) (c .if1 .taken))
 
 add-if2-2 : tie.Need-add-if2-2
 add-if2-2 c = omega (arith, small (entry (c .before)) .kernel-lt)
 
 group-kernels-requires : tie.Need-group-kernels-requires
-group-kernels-requires c κs = let s = entry (c .before) in (s .pre .0, s .pre .1 .here .group-lt)
+group-kernels-requires c κs = entry (c .before) .pre .1 .here .first-lt
 
 add-t7 : tie.Need-add-t7
 add-t7 c = search needs
@@ -46,7 +62,7 @@ returns-2 c =
     let k = c .before .before in
     let e = k .before .before in
     let s = entry e in
-    next-kernel (s .args .layout) (sizes s) (s .args .run) (s .pre .1) (e .if1 .left) (subst (λ (n : ℕ). s .args .run .kernel + 1 < n) (k .group-kernels .ensures) (c .before .if2 .taken))
+    next-kernel (s .args .layout) (sizes s) (s .args .run) (s .pre .1) (e .if1 .left) (subst (λ (n : ℕ). s .args .run .kernel + 1 < n) (kernels-are k) (c .before .if2 .taken))
 
 add-if3 : tie.Need-add-if3
 add-if3 c = search needs
@@ -69,12 +85,13 @@ returns-4 c =
     let d = c .before .before .before in
     let e = d .before .before .before in
     let s = entry e in
-    next-group (s .args .layout) (sizes s) (s .args .run) (s .pre .1) (e .if1 .left) (last d) (c .if3 .left)
+    behind (e .before .before .before) (next-group (s .args .layout) (sizes s) (s .args .run) (s .pre .1) (e .if1 .left) (last d) (c .if3 .left))
 
 pub next-spec : {M : Type 1} → statement M
 next-spec =
     tie.close
     (tie.spec
+    group-size-requires
     add-if2
     returns
     add-if2-2

@@ -1,42 +1,37 @@
 -- `weights::walk::place` meets its contract: its products are the definition's, within 64 bits. Assumes nothing.
-use Prim.Native.Nat.{ℕ, _*_}
 use native.Mathlib.Omega.{arith}
-use mathlib.Core.Path.{_≡_, ap}
-use Rattle.weights.specs.Geometry.{groupOf, blockChannels}
+use mathlib.Core.Path.{_∙_}
+use Rattle.weights.specs.Geometry.{blockChannels}
 use Rattle.weights.proofs.Taken.{Taken, taken}
 use Rattle.weights.proofs.BoundLaws.{pixels-le}
+use Rattle.weights.proofs.RunLaws.{kernels-of}
 use Rattle.weights.proofs.BlockLaws.{Numbers, Bounds, run-bounds, channel-columns, pixel-columns}
 use borrow.Author.Needs.{needs}
 use Rattle.weights.proofs.walk.place.Statement.{statement}
 use Rattle.weights.proofs.walk.place.Tie as tie
 
--- the places before the last call
-abbrev grouped : tie.After-least → tie.After-group-size
-grouped c = c .before .before .before .before .before
-
-abbrev entry : tie.After-group-size → tie.Start
-entry c = c .before .before .before
+abbrev entry : tie.After-least → tie.Start
+entry c = c .before .before .before .before .before .before
 
 sizes : (c : tie.Start) → Taken (c .args .layout)
 sizes c = taken (c .args .layout) (c .pre .0)
 
-first-is : (c : tie.After-group-size) → entry c .args .run .group * c .group-size .result ≡ entry c .args .run .group * groupOf (entry c .args .layout)
-first-is c = ap (λ (n : ℕ). entry c .args .run .group * n) (c .group-size .ensures)
-
 numbers : (c : tie.After-least)
-    → (let g = grouped c in
-    let a = entry g .args in
-    Numbers (a .layout) (a .run) (g .before .before .element-bytes .result) (a .run .group * g .group-size .result) (c .before .before .before .group-kernels .result) (c .least .result))
+    → (let a = entry c .args in
+    Numbers (a .layout) (a .run) (c .before .before .before .before .before .element-bytes .result) (c .before .before .before .group-kernels .result) (c .least .result))
 unfolding blockChannels
 numbers c =
-    let g = grouped c in
-    record { size-is = g .before .before .element-bytes .ensures; first-is = first-is g; kernels-is = c .before .before .before .group-kernels .ensures; channels-is = c .least .ensures }
+    let s = entry c in
+    record {
+      size-is = c .before .before .before .before .before .element-bytes .ensures;
+      kernels-is = c .before .before .before .group-kernels .ensures ∙ kernels-of (s .args .layout) (sizes s) (s .args .run) (s .pre .1 .here);
+      channels-is = c .least .ensures;
+    }
 
 bound : (c : tie.After-least)
-    → (let g = grouped c in
-    let a = entry g .args in
-    Bounds (a .layout) (a .run) (g .before .before .element-bytes .result) (a .run .group * g .group-size .result) (c .before .before .before .group-kernels .result) (c .least .result))
-bound c = let s = entry (grouped c) in run-bounds (s .args .layout) (sizes s) (s .args .run) (s .pre .1) (numbers c)
+    → (let a = entry c .args in
+    Bounds (a .layout) (a .run) (c .before .before .before .before .before .element-bytes .result) (c .before .before .before .group-kernels .result) (c .least .result))
+bound c = let s = entry c in run-bounds (s .args .layout) (sizes s) (s .args .run) (s .pre .1) (numbers c)
 
 element-bytes-requires : tie.Need-element-bytes-requires
 element-bytes-requires c κs = search needs
@@ -44,14 +39,8 @@ element-bytes-requires c κs = search needs
 mul-pixels : tie.Need-mul-pixels
 mul-pixels c = let s = c .before .before in omega (arith, pixels-le (s .args .layout) (sizes s))
 
-group-size-requires : tie.Need-group-size-requires
-group-size-requires c κs = search needs
-
-mul-first : tie.Need-mul-first
-mul-first c = let s = entry (c .before) in omega (arith, first-is (c .before), s .pre .1 .here .group-lt, sizes s .kernels .most-le)
-
 group-kernels-requires : tie.Need-group-kernels-requires
-group-kernels-requires c κs = (entry (c .before) .pre .0, entry (c .before) .pre .1 .here .group-lt)
+group-kernels-requires c κs = c .before .before .pre .1 .here .first-lt
 
 mul-channel : tie.Need-mul-channel
 mul-channel c = search needs
@@ -84,54 +73,54 @@ mul-from-2 : tie.Need-mul-from-2
 mul-from-2 c = let b = bound (c .before .before .before) in omega arith
 
 mul-number : tie.Need-mul-number
-mul-number c = let b = bound (c .before .before .before .before) in omega arith
+mul-number c = let b = bound (c .before .before .before .before .before) in omega arith
 
 mul-number-2 : tie.Need-mul-number-2
-mul-number-2 c = let b = bound (c .before .before .before .before) in omega arith
+mul-number-2 c = let b = bound (c .before .before .before .before .before) in omega arith
 
 add-number : tie.Need-add-number
-add-number c = let b = bound (c .before .before .before .before) in omega arith
+add-number c = let b = bound (c .before .before .before .before .before) in omega arith
 
 cast-number : tie.Need-cast-number
-cast-number c = let b = bound (c .before .before .before .before) in omega arith
+cast-number c = let b = bound (c .before .before .before .before .before) in omega arith
 
 cast-number-2 : tie.Need-cast-number-2
-cast-number-2 c = let b = bound (c .before .before .before .before) in omega arith
+cast-number-2 c = let b = bound (c .before .before .before .before .before) in omega arith
 
 mul-number-3 : tie.Need-mul-number-3
-mul-number-3 c = let b = bound (c .before .before .before .before) in omega arith
+mul-number-3 c = let b = bound (c .before .before .before .before .before) in omega arith
 
 mul-number-4 : tie.Need-mul-number-4
-mul-number-4 c = let b = bound (c .before .before .before .before .before) in omega arith
+mul-number-4 c = let b = bound (c .before .before .before .before .before .before) in omega arith
 
 cast-number-3 : tie.Need-cast-number-3
-cast-number-3 c = let b = bound (c .before .before .before .before .before) in omega arith
+cast-number-3 c = let b = bound (c .before .before .before .before .before .before) in omega arith
 
 add-number-2 : tie.Need-add-number-2
-add-number-2 c = let b = bound (c .before .before .before .before .before) in omega arith
+add-number-2 c = let b = bound (c .before .before .before .before .before .before) in omega arith
 
 cast-at : tie.Need-cast-at
 cast-at c = search needs
 
 mul-at : tie.Need-mul-at
-mul-at c = let b = bound (c .before .before .before .before .before) in omega arith
+mul-at c = let b = bound (c .before .before .before .before .before .before) in omega arith
 
 returns : tie.Need-returns
 returns c =
-    let w = c .before .before .before .before .before in
-    let s = entry (grouped (w .before)) in
+    let w = c .before .before .before .before .before .before in
+    let s = entry (w .before) in
     channel-columns (s .args .layout) (sizes s) (s .args .run) (s .pre .1) (numbers (w .before)) (w .run-width .ensures) (c .if1 .taken)
 
-mul-t13 : tie.Need-mul-t13
-mul-t13 c = let b = bound (c .before .before .before .before .before .before) in omega arith
+mul-t12 : tie.Need-mul-t12
+mul-t12 c = let b = bound (c .before .before .before .before .before .before .before) in omega arith
 
-mul-t14 : tie.Need-mul-t14
-mul-t14 c = let b = bound (c .before .before .before .before .before .before) in omega arith
+mul-t13 : tie.Need-mul-t13
+mul-t13 c = let b = bound (c .before .before .before .before .before .before .before) in omega arith
 
 returns-2 : tie.Need-returns-2
 returns-2 c =
-    let w = c .before .before .before .before .before in
-    let s = entry (grouped (w .before)) in
+    let w = c .before .before .before .before .before .before in
+    let s = entry (w .before) in
     pixel-columns (s .args .layout) (sizes s) (s .args .run) (s .pre .1) (numbers (w .before)) (w .run-width .ensures) (c .if1 .left)
 
 pub place-spec : {M : Type 1} → statement M
@@ -140,8 +129,6 @@ place-spec =
     (tie.spec
     element-bytes-requires
     mul-pixels
-    group-size-requires
-    mul-first
     group-kernels-requires
     mul-channel
     sub-least
@@ -165,6 +152,6 @@ place-spec =
     cast-at
     mul-at
     returns
+    mul-t12
     mul-t13
-    mul-t14
     returns-2)
