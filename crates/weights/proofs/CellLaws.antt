@@ -136,12 +136,15 @@ module _ (q : WeightLayout) (ok : Taken q) (x : Run) (a : AtRun q x) where
       (omega (arith, ap (λ (n : ℕ). n * sizeOf q) (w .packed)))
       (omega (arith, ap (λ (n : ℕ). n * (q .rows * q .columns)) (w .raw)))
 
-  channel-cell : (r j d : ℕ) → q .rows * q .columns ≡ 1 → Row q x r j d → Cell q x (channelColumns q x) r 0 (pixelNumber q (groupIn q x) (x .block) 0 j d)
+  channel-cell : (r u t j d : ℕ) → q .rows * q .columns ≡ 1 → u < 1 → t < q .rows * q .columns → Row q x r j d
+      → Cell q x (channelColumns q x) r u (pixelNumber q (groupIn q x) (x .block) t j d)
   unfolding pixelNumber pixelIndex
-  channel-cell r j d one w =
-      cell (channelColumns q x) r 0 0 j d (w .row-lt) (omega arith) (record { pixel-lt = omega (arith, one); kernel-lt = w .kernel-lt; channel-lt = w .channel-lt })
-      (omega (arith, ap (λ (n : ℕ). n * sizeOf q) (w .packed)))
-      (omega (arith, ap (λ (n : ℕ). n * (q .rows * q .columns)) (w .raw), ap (λ (n : ℕ). r * n) one))
+  channel-cell r u t j d one hu ht w =
+      let y : u ≡ 0 = omega arith in
+      let z : t ≡ 0 = omega (arith, one) in
+      cell (channelColumns q x) r u t j d (w .row-lt) hu (record { pixel-lt = ht; kernel-lt = w .kernel-lt; channel-lt = w .channel-lt })
+      (rw (y, z) (omega (arith, ap (λ (n : ℕ). n * sizeOf q) (w .packed))))
+      (rw (y, z) (omega (arith, ap (λ (n : ℕ). n * (q .rows * q .columns)) (w .raw), ap (λ (n : ℕ). r * n) one)))
 
   pixel-holds : Holds q x (pixelColumns q x)
   pixel-holds =
@@ -164,11 +167,8 @@ module _ (q : WeightLayout) (ok : Taken q) (x : Run) (a : AtRun q x) where
         apart = omega arith;
         wide = omega arith;
         each = λ i r hi hr. (let w = row-each i hi in
-            let z : 0 ≡ r = omega arith in
-            (pixelNumber q (groupIn q x) (x .block) 0 (w .0) (w .1), subst (λ (n : ℕ). Cell q x (channelColumns q x) i n (pixelNumber q (groupIn q x) (x .block) 0 (w .0) (w .1))) z (channel-cell i (w .0) (w .1) one (w .2))));
-        all = λ j t d of ht hd. (let w = row-all j d of hd in
-            let z : 0 ≡ t = omega (arith, one) in
-            (w .0, 0, subst (λ (n : ℕ). Cell q x (channelColumns q x) (w .0) 0 (pixelNumber q (groupIn q x) (x .block) n j d)) z (channel-cell (w .0) j d one (w .1))));
+            (pixelNumber q (groupIn q x) (x .block) 0 (w .0) (w .1), channel-cell i r 0 (w .0) (w .1) one hr (omega (arith, one)) (w .2)));
+        all = λ j t d of ht hd. (let w = row-all j d of hd in (w .0, 0, channel-cell (w .0) 0 t j d one (omega arith) ht (w .1)));
       }
 
   pub run-holds : Holds q x (runColumns q x)

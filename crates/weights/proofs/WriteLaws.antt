@@ -117,12 +117,14 @@ module _ (q : WeightLayout) (raw : List ℤ) (before : List ℕ) where
     pub write-done : (ok : Taken q) (x : Run) (l : List ℕ) → q .kernels ≤ x .first → Writing l x → l ≡ written q raw before
     write-done ok x l past w = written-all l (w .toward) (walked-all q 0 (written q raw before) Written ok x past w)
 
-    packed-cleared : cleared (elementCount q * sizeOf q) (surfaceBytes q - elementCount q * sizeOf q) (written q raw before) ≡ packed q raw before
-    packed-cleared =
+    pub write-packed : {end whole : ℕ} {l after : List ℕ} → end ≡ elementCount q * sizeOf q → whole ≡ surfaceBytes q → l ≡ written q raw before
+        → after ≡ cleared end (whole - end) l → after ≡ packed q raw before
+    write-packed e s w a =
         let end = elementCount q * sizeOf q in
         let n = surfaceBytes q - end in
         let long = cleared-length end n (written q raw before) in
-        ext-getD 0 (cleared end n (written q raw before)) (packed q raw before) (long ∙ written-length ∙ sym (packed-length q raw before))
+        a ∙ rw (e, s, w)
+        (ext-getD 0 (cleared end n (written q raw before)) (packed q raw before) (long ∙ written-length ∙ sym (packed-length q raw before))
         (λ p h.
         let lw : p < length (written q raw before) = subst (λ (m : ℕ). p < m) long h in
         let lt : p < length before = subst (λ (m : ℕ). p < m) written-length lw in
@@ -132,8 +134,4 @@ module _ (q : WeightLayout) (raw : List ℤ) (before : List ℕ) where
             | yes b ↦ cleared-in end n (written q raw before) p lw (omega arith) (omega arith) ∙ sym (packed-fill q raw before p (omega arith) b lt)
             | no g ↦ cleared-out end n (written q raw before) p lw (inr (omega (arith, surface-ge q))) ∙ written-outside p (omega arith) lt ∙ sym (packed-past q raw before p (omega arith))
           ]
-        ])
-
-    pub write-packed : {end whole : ℕ} {l after : List ℕ} → end ≡ elementCount q * sizeOf q → whole ≡ surfaceBytes q → l ≡ written q raw before
-        → after ≡ cleared end (whole - end) l → after ≡ packed q raw before
-    write-packed e s w a = a ∙ rw (e, s, w) packed-cleared
+        ]))

@@ -58,12 +58,13 @@ pub(crate) fn place(layout: WeightLayout, run: Run) -> ColumnBlock
 {
     let size = elements::element_bytes(layout.precision);
     let pixels = layout.rows * layout.columns;
+    let plane = pixels as usize;
     let kernels = group_kernels(layout, run.first);
     let channel = run.block * 64;
     let channels = least(64, layout.channels - channel);
     let width = run_width(layout, kernels, channels);
-    let from = ((run.first + run.kernel) * layout.channels + channel) as usize * pixels as usize;
-    let number = (run.first * layout.channels + channel * kernels) as usize * pixels as usize
+    let from = ((run.first + run.kernel) * layout.channels + channel) as usize * plane;
+    let number = (run.first * layout.channels + channel * kernels) as usize * plane
         + (run.kernel * channels) as usize;
     let at = number * size as usize;
     if pixels == 1 {

@@ -79,9 +79,7 @@ surface-bytes-requires : tie.Need-surface-bytes-requires
 surface-bytes-requires c κs = adm (checked (c .before)) .sizes
 
 sub-clear : tie.Need-sub-clear
-sub-clear c =
-    let q = entry (checked (c .before .before)) .args .layout in
-    omega (arith, c .before .weight-bytes .ensures, c .surface-bytes .ensures, surface-ge q)
+sub-clear c = omega (arith, c .before .weight-bytes .ensures, c .surface-bytes .ensures, surface-ge (entry (checked (c .before .before)) .args .layout))
 
 clear-requires : tie.Need-clear-requires
 clear-requires c κs = search needs

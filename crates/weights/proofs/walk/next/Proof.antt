@@ -38,9 +38,7 @@ group-size-requires : tie.Need-group-size-requires
 group-size-requires c κs = search needs
 
 add-if2 : tie.Need-add-if2
-add-if2 c =
-    let s = c .before .before in
-    omega (arith, c .before .group-size .ensures, groupSize-le (s .args .layout .precision), small s .kernel-in, sizes s .kernels .most-le)
+add-if2 c = let s = c .before .before in omega (arith, c .before .group-size .ensures, groupSize-le (s .args .layout .precision), small s .kernel-in, sizes s .kernels .most-le)
 
 returns : tie.Need-returns
 returns c =

@@ -39,6 +39,9 @@ element-bytes-requires c κs = search needs
 mul-pixels : tie.Need-mul-pixels
 mul-pixels c = let s = c .before .before in omega (arith, pixels-le (s .args .layout) (sizes s))
 
+cast-plane : tie.Need-cast-plane
+cast-plane c = omega (arith, mul-pixels c)
+
 group-kernels-requires : tie.Need-group-kernels-requires
 group-kernels-requires c κs = c .before .before .pre .1 .here .first-lt
 
@@ -66,9 +69,6 @@ add-from-2 c = let b = bound (c .before .before .before) in omega arith
 cast-from : tie.Need-cast-from
 cast-from c = let b = bound (c .before .before .before) in omega arith
 
-cast-from-2 : tie.Need-cast-from-2
-cast-from-2 c = let b = bound (c .before .before .before) in omega arith
-
 mul-from-2 : tie.Need-mul-from-2
 mul-from-2 c = let b = bound (c .before .before .before) in omega arith
 
@@ -84,17 +84,14 @@ add-number c = let b = bound (c .before .before .before .before .before) in omeg
 cast-number : tie.Need-cast-number
 cast-number c = let b = bound (c .before .before .before .before .before) in omega arith
 
-cast-number-2 : tie.Need-cast-number-2
-cast-number-2 c = let b = bound (c .before .before .before .before .before) in omega arith
-
 mul-number-3 : tie.Need-mul-number-3
 mul-number-3 c = let b = bound (c .before .before .before .before .before) in omega arith
 
 mul-number-4 : tie.Need-mul-number-4
 mul-number-4 c = let b = bound (c .before .before .before .before .before .before) in omega arith
 
-cast-number-3 : tie.Need-cast-number-3
-cast-number-3 c = let b = bound (c .before .before .before .before .before .before) in omega arith
+cast-number-2 : tie.Need-cast-number-2
+cast-number-2 c = let b = bound (c .before .before .before .before .before .before) in omega arith
 
 add-number-2 : tie.Need-add-number-2
 add-number-2 c = let b = bound (c .before .before .before .before .before .before) in omega arith
@@ -111,11 +108,11 @@ returns c =
     let s = entry (w .before) in
     channel-columns (s .args .layout) (sizes s) (s .args .run) (s .pre .1) (numbers (w .before)) (w .run-width .ensures) (c .if1 .taken)
 
-mul-t12 : tie.Need-mul-t12
-mul-t12 c = let b = bound (c .before .before .before .before .before .before .before) in omega arith
-
 mul-t13 : tie.Need-mul-t13
 mul-t13 c = let b = bound (c .before .before .before .before .before .before .before) in omega arith
+
+mul-t14 : tie.Need-mul-t14
+mul-t14 c = let b = bound (c .before .before .before .before .before .before .before) in omega arith
 
 returns-2 : tie.Need-returns-2
 returns-2 c =
@@ -129,6 +126,7 @@ place-spec =
     (tie.spec
     element-bytes-requires
     mul-pixels
+    cast-plane
     group-kernels-requires
     mul-channel
     sub-least
@@ -138,20 +136,18 @@ place-spec =
     mul-from
     add-from-2
     cast-from
-    cast-from-2
     mul-from-2
     mul-number
     mul-number-2
     add-number
     cast-number
-    cast-number-2
     mul-number-3
     mul-number-4
-    cast-number-3
+    cast-number-2
     add-number-2
     cast-at
     mul-at
     returns
-    mul-t12
     mul-t13
+    mul-t14
     returns-2)

@@ -37,10 +37,7 @@ run-at : (c : tie.Then1 Inv-loop μ-loop) → AtRun (entry (head c) .args .layou
 run-at c = head c .loop .inv .at (c .if1 .taken)
 
 loop-holds : tie.Need-loop-holds Inv-loop μ-loop
-loop-holds c =
-    let s = c .before in
-    let a = s .args in
-    write-first (a .layout) (a .elements .now) (a .buffer .now) (adm s .layout)
+loop-holds c = let s = c .before in let a = s .args in write-first (a .layout) (a .elements .now) (a .buffer .now) (adm s .layout)
 
 place-requires : tie.Need-place-requires Inv-loop μ-loop
 place-requires c κs = (adm (entry (head c)) .sizes, run-at c)
