@@ -129,9 +129,9 @@ module _ (q : WeightLayout) (raw : List ℤ) (before : List ℕ) where
         let lw : p < length (written q raw before) = subst (λ (m : ℕ). p < m) long h in
         let lt : p < length before = subst (λ (m : ℕ). p < m) written-length lw in
         elim (decLt p end) [
-          | yes b ↦ cleared-out end n (written q raw before) p lw (inl b) ∙ written-inside p b lt
+          | yes b ↦ cleared-out end n (written q raw before) p (inl b) ∙ written-inside p b lt
           | no f ↦ elim (decLt p (surfaceBytes q)) [
             | yes b ↦ cleared-in end n (written q raw before) p lw (omega arith) (omega arith) ∙ sym (packed-fill q raw before p (omega arith) b lt)
-            | no g ↦ cleared-out end n (written q raw before) p lw (inr (omega (arith, surface-ge q))) ∙ written-outside p (omega arith) lt ∙ sym (packed-past q raw before p (omega arith))
+            | no g ↦ cleared-out end n (written q raw before) p (inr (omega (arith, surface-ge q))) ∙ written-outside p (omega arith) lt ∙ sym (packed-past q raw before p (omega arith))
           ]
         ]))
