@@ -1,0 +1,85 @@
+-- The logarithm, and the index of an exponential hit. Assumes nothing.
+--     log-range, log-le, log-half          its range; by the leading zeros of the half
+--     reaches-pos, index-is                a hit's distance is above 0; its index is of 0..63
+use Prim.Native.Nat.{ℕ, zero, suc, _+_, _-_, _*_, _/_, _^_, _≤_, _<_}
+use native.Mathlib.Nat.{pow-le-pow-right, two-pow-succ}
+use native.Mathlib.Decide.{ℕ-discrete, decLt}
+use native.Mathlib.Omega.{arith}
+use borrow.Author.Tests.{lt-ltb, le-ltb}
+use mathlib.Core.Path.{_≡_, refl, sym}
+use mathlib.Core.Bool.{Bool, true, false, cond}
+use lib.Count.{leadingZeros, leading-top, leading-of-zero}
+use lib.Dec.{lit<, ltb}
+use lib.Pow.{pow-pos}
+use lib.IntN.{ℤ, pos, negsuc, _-ℤ_}
+use Rattle.integers.proofs.UpDown.{up, dn, ud-inj, take-ud, leZ-true}
+use Rattle.lut.specs.Tables.{reaches}
+use Rattle.lut.specs.Numbers.{between, logBelow}
+use Rattle.lut.proofs.NumberLaws.{between-ud}
+
+pub log-range : (n d : ℕ) → 0 < d → d < 2 ^ n → (2 ^ logBelow n d ≤ d) × (d < 2 * 2 ^ logBelow n d)
+unfolding logBelow
+log-range zero d h k = absurd (omega arith)
+log-range (suc n) d h k = elim (decLt d (2 ^ n)) [
+  | yes b ↦ rw (lt-ltb d (2 ^ n) b) (log-range n d h b)
+  | no b ↦ rw (le-ltb d (2 ^ n) (omega (arith, b))) (omega (arith, b), omega arith)
+]
+
+cond-le : {a b n : ℕ} (t : Bool) → a ≤ n → b ≤ n → cond t a b ≤ n
+cond-le true h k = h
+cond-le false h k = k
+
+pub log-le : (n d : ℕ) → logBelow (suc n) d ≤ n
+unfolding logBelow
+log-le zero d = cond-le (ltb d (2 ^ 0)) (omega arith) (omega arith)
+log-le (suc n) d = cond-le (ltb d (2 ^ suc n)) (omega (arith, log-le n d)) (omega arith)
+
+pow-lt-inv : (i j : ℕ) → 2 ^ i < 2 ^ j → i < j
+pow-lt-inv i j h = elim (decLt i j) [ yes l ↦ l | no l ↦ absurd (omega (arith, pow-le-pow-right {n = 2} (lit< tt) {i = j} {j = i} (omega (arith, l)))) ]
+
+logBelow-is : (n d j : ℕ) → 2 ^ j ≤ d → d < 2 ^ suc j → j < n → logBelow n d ≡ j
+unfolding logBelow
+logBelow-is zero d j h k l = absurd (omega arith)
+logBelow-is (suc n) d j h k l = elim (decLt d (2 ^ n)) [
+  | yes b ↦ rw (lt-ltb d (2 ^ n) b) (logBelow-is n d j h k (pow-lt-inv j n (omega arith)))
+  | no b ↦ rw (le-ltb d (2 ^ n) (omega (arith, b))) (omega (arith, pow-lt-inv n (suc j) (omega (arith, b))))
+]
+
+-- ---- by the leading zeros of the half
+
+log-small : (q : ℕ) → q / 2 ≡ 0 → logBelow 32 q ≡ 0
+unfolding logBelow
+log-small q e = elim (ℕ-discrete q 0) [
+  | yes z ↦ rw z refl
+  | no f ↦ let one : q ≡ 1 = omega (arith, e, f) in rw one refl
+]
+
+pub log-half : (q : ℕ) → q < 4294967296 → (leadingZeros 32 (q / 2) ≤ 32) × (32 - leadingZeros 32 (q / 2) ≡ logBelow 32 q)
+log-half q h = elim (decLt 0 (q / 2)) [
+  | yes p ↦
+      let t = leading-top 32 (q / 2) p (omega arith) in
+      let j = t .0 in
+      let high = pow-lt-inv j 31 (omega (arith, t .2)) in
+      let is = logBelow-is 32 q (suc j) (omega (arith, t .2, two-pow-succ j)) (omega (arith, t .3, two-pow-succ j, two-pow-succ (suc j))) (omega (arith, high)) in
+      (omega (arith, t .1), omega (arith, t .1, is))
+  | no f ↦
+      let e : q / 2 ≡ 0 = omega (arith, f) in
+      (rw (e, leading-of-zero 32) (omega arith), rw (e, leading-of-zero 32) (sym (log-small q e)))
+]
+
+-- ---- the exponential index
+
+pub reaches-pos : (offset : ℤ) (d : ℕ) → reaches offset (pos d) ≡ true → 0 < d
+unfolding reaches
+reaches-pos (pos k) d e = omega (arith, pow-pos k, leZ-true (pos (2 ^ k)) (pos d) e)
+reaches-pos (negsuc k) d e = omega (arith, leZ-true (pos 1) (pos d) e)
+
+-- the index, of 0..63
+pub index-is : (offset : ℤ) (d j : ℕ) → between (negsuc 31) (pos 31) offset ≡ true → reaches offset (pos d) ≡ true → d < 2 ^ suc j → j ≤ 31
+    → (n : ℕ) × (pos j -ℤ offset ≡ pos n) × (n ≤ 63)
+unfolding reaches
+index-is (pos k) d j b e l h =
+    let low = pow-lt-inv k (suc j) (omega (arith, leZ-true (pos (2 ^ k)) (pos d) e)) in
+    (j - k, ud-inj (pos j -ℤ pos k) (pos (j - k)) (omega (arith, low, take-ud (pos j) (pos k))), omega arith)
+index-is (negsuc k) d j b e l h =
+    (j + suc k, ud-inj (pos j -ℤ negsuc k) (pos (j + suc k)) (omega (arith, take-ud (pos j) (negsuc k))), omega (arith, between-ud (negsuc 31) (pos 31) (negsuc k) b .0))

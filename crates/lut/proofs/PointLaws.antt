@@ -1,0 +1,214 @@
+-- The points of a table written: a slope's rise within 32 bits, and the loop over the entries. Assumes nothing.
+--     shift-ud, rise-le, rise-fits, rise-value     a slope's rise
+--     step-fits, step-value                        the step between two entries
+--     Begun, begun, begun-next, filled             the first i entries' points, and the whole table's
+use Prim.Native.Nat.{ℕ, suc, _+_, _*_, _^_, _≤_, _<_}
+use native.Mathlib.Nat.{pow-le-pow-right, mul-le-mul}
+use native.Mathlib.Decide.{ℕ-discrete}
+use native.Mathlib.Omega.{arith}
+use mathlib.Core.Path.{_≡_, refl, sym, ap, subst, _∙_}
+use mathlib.Core.Bool.{true}
+use mathlib.Core.List.{List}
+use lib.Dec.{lit<}
+use lib.IntN.{ℤ, pos, negsuc, _-ℤ_, _*ℤ_}
+use lib.ListN.{length, getD, set, length-set}
+use lib.Seq.{getD-set-same, getD-set-other}
+use lib.Signed.{mag}
+use mir.Syntax.{w16, w32}
+use mir.Val.{SFits, toZ, ofZ}
+use mir.Facts.{sfits-widen, toZ-ofZ, toZ-pos}
+use Rattle.integers.proofs.UpDown.{up, dn, up-times, dn-times}
+use Rattle.integers.proofs.Ranges.{within-take, fits-within, within-fits}
+use Rattle.integers.proofs.Casts.{cast-value}
+use Rattle.lut.specs.declared.Slope.{Slope}
+use Rattle.lut.specs.Tables.{entry}
+use Rattle.lut.specs.Rules.{shiftTaken}
+use Rattle.lut.specs.StepsRows.{slopeRise, Stored, Filled}
+use Rattle.lut.proofs.NumberLaws.{between-abs, nat-within, ud-fits}
+
+-- ---- a slope's rise
+
+pub shift-ud : (shift : ℤ) → shiftTaken shift ≡ true → (up shift ≤ 15) × (dn shift ≤ 16)
+unfolding shiftTaken
+shift-ud shift t = between-abs 15 15 shift t
+
+pub rise-le : (shift : ℤ) → shiftTaken shift ≡ true → 2 ^ dn shift ≤ 65536
+rise-le shift t = pow-le-pow-right {n = 2} (lit< tt) {i = dn shift} {j = 16} (shift-ud shift t .1)
+
+abbrev from : ℤ → ℤ
+from z = toZ w32 (ofZ w32 (toZ w16 (ofZ w16 z)))
+
+pub count-fits : {m : ℕ} → m ≤ 65536 → SFits w32 (pos m)
+count-fits h = within-fits (nat-within h) (lit< tt)
+
+scale-ud : (scale : ℤ) → SFits w16 scale → (up scale ≤ 32767) × (dn scale ≤ 32768)
+scale-ud (pos n) f = (omega (arith, f .sfits), omega arith)
+scale-ud (negsuc n) f = (omega arith, omega (arith, f .sfits))
+
+module _ {scale : ℤ} {m : ℕ} (f : SFits w16 scale) (h : m ≤ 65536) where
+  rise-is : from scale *ℤ toZ w32 m ≡ scale *ℤ pos m
+  rise-is = rw (cast-value f (sfits-widen tt f), toZ-pos w32 {n = m} (omega arith))
+
+  pub rise-fits : SFits w32 (from scale *ℤ toZ w32 m)
+  rise-fits =
+      let s = scale-ud scale f in
+      rw rise-is
+      (ud-fits (scale *ℤ pos m) (omega (arith, up-times scale m, mul-le-mul (s .0) h)) (omega (arith, dn-times scale m, mul-le-mul (s .1) h)))
+
+pub rise-value : (s : Slope) {m : ℕ} → SFits w16 (s .scale) → m ≤ 65536 → m ≡ 2 ^ dn (s .shift) → toZ w32 (ofZ w32 (from (s .scale) *ℤ toZ w32 m)) ≡ slopeRise s
+unfolding slopeRise
+rise-value s f h e = toZ-ofZ (rise-fits f h) ∙ rise-is f h ∙ ap (λ (n : ℕ). s .scale *ℤ pos n) e
+
+-- ---- the step between two entries
+
+module _ {a b : ℤ} (fa : SFits w16 a) (fb : SFits w16 b) where
+  step-is : from b -ℤ from a ≡ b -ℤ a
+  step-is = rw (cast-value fa (sfits-widen tt fa), cast-value fb (sfits-widen tt fb))
+
+  pub step-fits : SFits w32 (from b -ℤ from a)
+  step-fits = rw step-is (within-fits (within-take (fits-within fb) (fits-within fa)) (lit< tt))
+
+  pub step-value : toZ w32 (ofZ w32 (from b -ℤ from a)) ≡ b -ℤ a
+  step-value = toZ-ofZ step-fits ∙ step-is
+
+-- ---- the points written
+
+module _ (l : List ℤ) (at : ℕ) (v : ℤ) where
+  entry-same : at < length l → entry (set l at v) at ≡ v
+  unfolding entry
+  entry-same h = getD-set-same l at v (pos 0) h
+
+  entry-other : (j : ℕ) → (j ≡ at → ⊥) → entry (set l at v) j ≡ entry l j
+  unfolding entry
+  entry-other j f = getD-set-other l at j v (pos 0) f
+
+-- the points of the first i entries are written, and those before base stay
+pub record Begun (firsts₀ rises₀ firsts rises table : List ℤ) (base i : ℕ) : Type 0 where
+  pub first : (j : ℕ) → j < i → entry firsts (base + j) ≡ entry table j
+  pub rise : (j : ℕ) → j < i → entry rises (base + j) ≡ entry table (j + 1) -ℤ entry table j
+  pub fits : (j : ℕ) → j < i → mag (entry table j) < 32768
+  pub firsts-kept : (j : ℕ) → j < base → entry firsts j ≡ entry firsts₀ j
+  pub rises-kept : (j : ℕ) → j < base → entry rises j ≡ entry rises₀ j
+  pub firsts-long : length firsts ≡ 326
+  pub rises-long : length rises ≡ 326
+
+pub begun : (firsts rises table : List ℤ) (base : ℕ) → length firsts ≡ 326 → length rises ≡ 326 → Begun firsts rises firsts rises table base 0
+begun firsts rises table base h k =
+    record {
+      first = λ j l. absurd (omega arith);
+      rise = λ j l. absurd (omega arith);
+      fits = λ j l. absurd (omega arith);
+      firsts-kept = λ j l. refl;
+      rises-kept = λ j l. refl;
+      firsts-long = h;
+      rises-long = k;
+    }
+
+module _ {firsts₀ rises₀ firsts rises table : List ℤ} {base i : ℕ} (h : Begun firsts₀ rises₀ firsts rises table base i) (a b : ℤ) where
+  pub begun-next : base + i < 326 → a ≡ entry table i → b ≡ entry table (i + 1) -ℤ entry table i → mag (entry table i) < 32768
+      → Begun firsts₀ rises₀ (set firsts (base + i) a) (set rises (base + i) b) table base (i + 1)
+  begun-next l e f m =
+      record {
+        first = λ j k. first-by j k;
+        rise = λ j k. rise-by j k;
+        fits = λ j k. fits-by j k;
+        firsts-kept = λ j k. entry-other firsts (base + i) a j (λ q. omega arith) ∙ h .firsts-kept j k;
+        rises-kept = λ j k. entry-other rises (base + i) b j (λ q. omega arith) ∙ h .rises-kept j k;
+        firsts-long = length-set firsts (base + i) a ∙ h .firsts-long;
+        rises-long = length-set rises (base + i) b ∙ h .rises-long;
+      }
+    where
+      first-by : (j : ℕ) → j < i + 1 → entry (set firsts (base + i) a) (base + j) ≡ entry table j
+      first-by j k = elim (ℕ-discrete j i) [
+        | yes q ↦ rw q (entry-same firsts (base + i) a (omega (arith, h .firsts-long)) ∙ e)
+        | no g ↦ entry-other firsts (base + i) a (base + j) (λ q. g (omega arith)) ∙ h .first j (omega (arith, g))
+      ]
+
+      rise-by : (j : ℕ) → j < i + 1 → entry (set rises (base + i) b) (base + j) ≡ entry table (j + 1) -ℤ entry table j
+      rise-by j k = elim (ℕ-discrete j i) [
+        | yes q ↦ rw q (entry-same rises (base + i) b (omega (arith, h .rises-long)) ∙ f)
+        | no g ↦ entry-other rises (base + i) b (base + j) (λ q. g (omega arith)) ∙ h .rise j (omega (arith, g))
+      ]
+
+      fits-by : (j : ℕ) → j < i + 1 → mag (entry table j) < 32768
+      fits-by j k = elim (ℕ-discrete j i) [
+        | yes q ↦ rw q m
+        | no g ↦ h .fits j (omega (arith, g))
+      ]
+
+-- the last entry's point, and the two slopes'
+module _ {firsts₀ rises₀ firsts rises table : List ℤ} {base last : ℕ} (h : Begun firsts₀ rises₀ firsts rises table base last) (start end : ℤ) (below above : Slope)
+    (room : base + last ≤ 323) (s : start ≡ entry table 0) (e : end ≡ entry table last) (m : mag (entry table last) < 32768) where
+  abbrev three : List ℤ → ℤ → ℤ → ℤ → List ℤ
+  three l a b c = set (set (set l (base + last) a) (base + last + 1) b) (base + last + 2) c
+
+  module _ (l : List ℤ) (a b c : ℤ) (long : length l ≡ 326) where
+    three-before : (j : ℕ) → j < base + last → entry (three l a b c) j ≡ entry l j
+    three-before j k =
+        entry-other (set (set l (base + last) a) (base + last + 1) b) (base + last + 2) c j (λ q. omega arith)
+        ∙ entry-other (set l (base + last) a) (base + last + 1) b j (λ q. omega arith) ∙ entry-other l (base + last) a j (λ q. omega arith)
+
+    three-long : length (three l a b c) ≡ 326
+    three-long =
+        length-set (set (set l (base + last) a) (base + last + 1) b) (base + last + 2) c ∙ length-set (set l (base + last) a) (base + last + 1) b
+        ∙ length-set l (base + last) a ∙ long
+
+    three-first : entry (three l a b c) (base + last) ≡ a
+    three-first =
+        entry-other (set (set l (base + last) a) (base + last + 1) b) (base + last + 2) c (base + last) (λ q. omega arith)
+        ∙ entry-other (set l (base + last) a) (base + last + 1) b (base + last) (λ q. omega arith) ∙ entry-same l (base + last) a (omega (arith, long))
+
+    three-second : entry (three l a b c) (base + last + 1) ≡ b
+    three-second =
+        entry-other (set (set l (base + last) a) (base + last + 1) b) (base + last + 2) c (base + last + 1) (λ q. omega arith)
+        ∙ entry-same (set l (base + last) a) (base + last + 1) b (omega (arith, long, length-set l (base + last) a))
+
+    three-third : entry (three l a b c) (base + last + 2) ≡ c
+    three-third =
+        entry-same (set (set l (base + last) a) (base + last + 1) b) (base + last + 2) c
+        (omega (arith, long, length-set l (base + last) a, length-set (set l (base + last) a) (base + last + 1) b))
+
+  pub filled : Filled firsts₀ rises₀ (three firsts end start end) (three rises (pos 0) (slopeRise below) (slopeRise above)) table base last below above
+  filled =
+      record {
+        stored = record {
+          first = λ i l. first-by i l;
+          rise = λ i l. three-before rises (pos 0) (slopeRise below) (slopeRise above) (h .rises-long) (base + i) (omega arith) ∙ h .rise i l;
+          fits = λ i l. fits-by i l;
+          first-below = three-second firsts end start end (h .firsts-long) ∙ s;
+          rise-below = three-second rises (pos 0) (slopeRise below) (slopeRise above) (h .rises-long);
+          first-above = three-third firsts end start end (h .firsts-long) ∙ e;
+          rise-above = three-third rises (pos 0) (slopeRise below) (slopeRise above) (h .rises-long);
+        };
+        firsts-kept = λ j l. three-before firsts end start end (h .firsts-long) j (omega arith) ∙ h .firsts-kept j l;
+        rises-kept = λ j l. three-before rises (pos 0) (slopeRise below) (slopeRise above) (h .rises-long) j (omega arith) ∙ h .rises-kept j l;
+        firsts-long = three-long firsts end start end (h .firsts-long);
+        rises-long = three-long rises (pos 0) (slopeRise below) (slopeRise above) (h .rises-long);
+      }
+    where
+      first-by : (i : ℕ) → i ≤ last → entry (three firsts end start end) (base + i) ≡ entry table i
+      first-by i l = elim (ℕ-discrete i last) [
+        | yes q ↦ rw q (three-first firsts end start end (h .firsts-long) ∙ e)
+        | no g ↦ three-before firsts end start end (h .firsts-long) (base + i) (omega (arith, g)) ∙ h .first i (omega (arith, g))
+      ]
+
+      fits-by : (i : ℕ) → i ≤ last → mag (entry table i) < 32768
+      fits-by i l = elim (ℕ-discrete i last) [
+        | yes q ↦ rw q m
+        | no g ↦ h .fits i (omega (arith, g))
+      ]
+
+-- a table's points stay where later ones are written
+pub stored-kept : {firsts₀ rises₀ firsts rises table : List ℤ} {base last : ℕ} {below above : Slope} → Stored firsts₀ rises₀ table base last below above
+    → ((j : ℕ) → j < base + last + 3 → entry firsts j ≡ entry firsts₀ j) → ((j : ℕ) → j < base + last + 3 → entry rises j ≡ entry rises₀ j)
+    → Stored firsts rises table base last below above
+stored-kept {base = base} {last = last} h f g =
+    record {
+      first = λ i l. f (base + i) (omega arith) ∙ h .first i l;
+      rise = λ i l. g (base + i) (omega arith) ∙ h .rise i l;
+      fits = h .fits;
+      first-below = f (base + last + 1) (omega arith) ∙ h .first-below;
+      rise-below = g (base + last + 1) (omega arith) ∙ h .rise-below;
+      first-above = f (base + last + 2) (omega arith) ∙ h .first-above;
+      rise-above = g (base + last + 2) (omega arith) ∙ h .rise-above;
+    }

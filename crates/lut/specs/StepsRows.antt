@@ -1,0 +1,214 @@
+-- What the code of the lookup goes by for its samples: each pair of sides has a row of numbers, and each answer is the row's point at the sample, on the
+-- line from a first number that rises by so much. No public promise rests on it. Assumes nothing.
+use Prim.Native.Nat.{ℕ, zero, suc, _+_, _-_, _*_, _/_, _^_, _≤_, _<_}
+use mathlib.Core.Path.{_≡_}
+use mathlib.Core.Bool.{Bool, true, false, cond}
+use mathlib.Core.List.{List, [], _∷_}
+use lib.Dec.{eqb}
+use lib.IntN.{ℤ, pos, negsuc, natAbs, _+ℤ_, _-ℤ_, _*ℤ_}
+use lib.ListN.{length, getD}
+use lib.Signed.{mag, ltZ, leZ, shrZ}
+use mir.Syntax.{w32}
+use mir.Val.{SFits}
+use Rattle.integers.specs.Saturate.{saturate}
+use Rattle.integers.proofs.UpDown.{up, dn}
+use Rattle.lut.specs.declared.Slope.{Slope}
+use Rattle.lut.specs.declared.Row.{Row}
+use Rattle.lut.specs.declared.TableRows.{TableRows}
+use Rattle.lut.specs.declared.Span.{Span}
+use Rattle.lut.specs.declared.Bounds.{Bounds}
+use Rattle.lut.specs.declared.XMode.{XMode}
+use Rattle.lut.specs.declared.XMode.the-variants.{Linear, Exponential}
+use Rattle.lut.specs.declared.XSettings.{XSettings}
+use Rattle.lut.specs.declared.YSettings.{YSettings}
+use Rattle.lut.specs.declared.LutSettings.{LutSettings}
+use Rattle.lut.specs.declared.Counters.{Counters}
+use Rattle.lut.specs.declared.Table.{Table}
+use Rattle.lut.specs.declared.Table.the-variants.{X, Y}
+use Rattle.lut.specs.Numbers.{logBelow}
+use Rattle.lut.specs.Tables.{entry, linearX}
+
+-- ---- what a row answers
+
+-- at f of m steps on the line from a first number that rises by so much, rounded down and held to 32 bits
+unfoldable pub onLine : ℤ → ℤ → ℤ → ℕ → ℤ
+onLine first rise f m = saturate (negsuc 2147483647) (pos 2147483647) (first +ℤ shrZ (rise *ℤ f) m)
+
+-- a sample's distance from the row's origin
+unfoldable pub rowFar : Row → ℤ → ℤ
+rowFar r x = (x -ℤ r .origin) *ℤ r .size
+
+-- the whole steps of 2^(shift + p) in it, where they count; p is the power of 2 at or below it where the row is exponential, else 0
+unfoldable pub rowSteps : Row → ℕ → ℤ → ℕ
+rowSteps r p x = natAbs (rowFar r x *ℤ r .on) / 2 ^ (r .shift + p)
+
+-- the point's number
+unfoldable pub rowPoint : Row → ℕ → ℤ → ℕ
+rowPoint r p x = r .base + p + rowSteps r p x
+
+-- what is left of the distance
+unfoldable pub rowRest : Row → ℕ → ℤ → ℤ
+rowRest r p x = rowFar r x -ℤ pos (rowSteps r p x * 2 ^ (r .shift + p))
+
+unfoldable pub rowAnswer : Row → List ℤ → List ℤ → ℕ → ℤ → ℤ
+rowAnswer r firsts rises p x = onLine (entry firsts (rowPoint r p x)) (entry rises (rowPoint r p x)) (rowRest r p x) (2 ^ (r .shift + p))
+
+-- the row's numbers for a sample stay within their types
+pub record Inside (r : Row) (p : ℕ) (x : ℤ) : Type 0 where
+  pub far-le : natAbs (rowFar r x) ≤ 4294967295
+  pub on-is : rowFar r x *ℤ r .on ≡ pos (natAbs (rowFar r x *ℤ r .on))
+  pub on-le : natAbs (rowFar r x *ℤ r .on) ≤ 4294967295
+  pub shift-le : r .shift + p ≤ 31
+  pub point-lt : rowPoint r p x < 326
+  pub rest-le : natAbs (rowRest r p x) ≤ 4294967295
+
+-- the distance whose power of 2 counts where the row is exponential
+unfoldable pub rowWide : Row → ℤ → ℤ
+rowWide r x = (x -ℤ r .origin) *ℤ r .wide
+
+pub record Powered (r : Row) (x : ℤ) : Type 0 where
+  pub wide-is : rowWide r x ≡ pos (natAbs (rowWide r x))
+  pub wide-le : natAbs (rowWide r x) ≤ 4294967295
+
+unfoldable pub rowPower : Bool → Row → ℤ → ℕ
+rowPower wide r x = cond wide (logBelow 32 (natAbs (rowWide r x))) 0
+
+-- ---- the rows of a table
+
+unfoldable pub slopeRow : ℤ → ℤ → ℕ → Row
+slopeRow origin shift base = record { origin = origin; size = pos 1; shift = up shift; on = pos 0; base = base; wide = pos 0 }
+
+unfoldable pub lineRow : ℤ → ℤ → ℕ → Row
+lineRow start select base = record { origin = start; size = pos (2 ^ dn select); shift = up select; on = pos 1; base = base; wide = pos 0 }
+
+unfoldable pub powerRow : ℤ → ℤ → Row
+powerRow start offset = record { origin = start; size = pos 1; shift = 0; on = pos 1; base = natAbs (pos 258 -ℤ offset); wide = pos 1 }
+
+-- a linear table, last entry N, its points from base on: N + 1 for its hits, then one for each slope
+unfoldable pub linearRows : YSettings → ℕ → ℕ → TableRows
+linearRows t base last =
+    record {
+      below = slopeRow (t .start) (t .below .shift) (base + last + 1);
+      hit = lineRow (t .start) (t .select) base;
+      above = slopeRow (t .end) (t .above .shift) (base + last + 2);
+    }
+
+unfoldable pub rowsX : XSettings → TableRows
+rowsX s = byMode (s .mode)
+  where
+    byMode : XMode → TableRows
+    byMode (Linear select) = linearRows (linearX s select) 259 64
+    byMode (Exponential offset) =
+        record {
+          below = slopeRow (s .start) (s .below .shift) 324;
+          hit = powerRow (s .start) offset;
+          above = slopeRow (s .end) (s .above .shift) 325;
+        }
+
+-- ---- the rows of all pairs of sides
+
+unfoldable pub picked : Table → Row → Row → Row
+picked X x y = x
+picked Y x y = y
+
+unfoldable pub rowsOf : LutSettings → TableRows → TableRows → List Row
+rowsOf s x y =
+    picked (s .underflow) (x .below) (y .below) ∷ y .hit ∷ picked (s .priority) (x .below) (y .above) ∷ x .hit ∷ picked (s .priority) (x .hit) (y .hit)
+    ∷ x .hit ∷ picked (s .priority) (x .above) (y .below) ∷ y .hit ∷ picked (s .overflow) (x .above) (y .above) ∷ []
+
+-- the number of a sample's side, and of its pair of sides
+unfoldable pub sideOf : Span → ℤ → ℕ
+sideOf s x = cond (leZ (s .first) x) 1 0 + cond (ltZ (s .last) x) 1 0
+
+unfoldable pub pairOf : Bounds → ℤ → ℕ
+pairOf b x = 3 * sideOf (b .x) x + sideOf (b .y) x
+
+-- the first sample that is not below X
+unfoldable pub firstX : XSettings → ℤ
+firstX s = byMode (s .mode)
+  where
+    byMode : XMode → ℤ
+    byMode (Linear select) = s .start
+    byMode (Exponential offset) = s .start +ℤ pos (2 ^ up offset)
+
+unfoldable pub boundsOf : LutSettings → Bounds
+boundsOf s = record { x = record { first = firstX (s .x); last = s .x .end }; y = record { first = s .y .start; last = s .y .end } }
+
+-- the settings' numbers are of their types
+pub record SettingsFit (s : LutSettings) : Type 0 where
+  pub x-start : SFits w32 (s .x .start)
+  pub x-end : SFits w32 (s .x .end)
+  pub y-start : SFits w32 (s .y .start)
+  pub y-end : SFits w32 (s .y .end)
+
+unfoldable pub wideOf : XMode → Bool
+wideOf (Linear select) = false
+wideOf (Exponential offset) = true
+
+-- ---- the points
+
+-- how far a slope rises at each step of its row
+unfoldable pub slopeRise : Slope → ℤ
+slopeRise s = s .scale *ℤ pos (2 ^ dn (s .shift))
+
+-- a table's points from base on
+pub record Stored (firsts rises table : List ℤ) (base last : ℕ) (below above : Slope) : Type 0 where
+  pub first : (i : ℕ) → i ≤ last → entry firsts (base + i) ≡ entry table i
+  pub rise : (i : ℕ) → i < last → entry rises (base + i) ≡ entry table (i + 1) -ℤ entry table i
+  pub fits : (i : ℕ) → i ≤ last → mag (entry table i) < 32768
+  pub first-below : entry firsts (base + last + 1) ≡ entry table 0
+  pub rise-below : entry rises (base + last + 1) ≡ slopeRise below
+  pub first-above : entry firsts (base + last + 2) ≡ entry table last
+  pub rise-above : entry rises (base + last + 2) ≡ slopeRise above
+
+-- a table's points are written, and those before base stay
+pub record Filled (firsts₀ rises₀ firsts rises table : List ℤ) (base last : ℕ) (below above : Slope) : Type 0 where
+  pub stored : Stored firsts rises table base last below above
+  pub firsts-kept : (j : ℕ) → j < base → entry firsts j ≡ entry firsts₀ j
+  pub rises-kept : (j : ℕ) → j < base → entry rises j ≡ entry rises₀ j
+  pub firsts-long : length firsts ≡ 326
+  pub rises-long : length rises ≡ 326
+
+-- ---- the loop
+
+unfoldable pub rowFor : List Row → Bounds → ℤ → Row
+rowFor rows b x = getD rows (pairOf b x) (record { origin = pos 0; size = pos 0; shift = 0; on = pos 0; base = 0; wide = pos 0 })
+
+-- the answer to a sample
+unfoldable pub pairAnswer : List Row → Bounds → List ℤ → List ℤ → Bool → ℤ → ℤ
+pairAnswer rows b firsts rises wide x = rowAnswer (rowFor rows b x) firsts rises (rowPower wide (rowFor rows b x) x) x
+
+-- how many samples f gives k for
+unfoldable pub countAt : (ℤ → ℕ) → ℕ → List ℤ → ℕ
+countAt f k [] = 0
+countAt f k (x ∷ samples) = cond (eqb k (f x)) 1 0 + countAt f k samples
+
+-- seen holds how many of the samples f gives each number for
+abbrev pub Tally : (ℤ → ℕ) → List ℤ → List ℕ → Type 0
+Tally f samples seen = (k : ℕ) → getD seen k 0 ≡ countAt f k samples
+
+-- each sample's row can answer it
+abbrev pub AllReady : List Row → Bounds → Bool → Type 0
+AllReady rows b wide = (x : ℤ) → mag x < 2147483648 → Powered (rowFor rows b x) x × Inside (rowFor rows b x) (rowPower wide (rowFor rows b x) x) x
+
+-- the samples are numbers of 32 bits
+abbrev pub Ranged : List ℤ → Type 0
+Ranged samples = (i : ℕ) → i < length samples → mag (getD samples i (pos 0)) < 2147483648
+
+-- the counters and the samples of each pair of sides together
+abbrev pub summed : Counters → List ℕ → Counters
+summed c seen =
+    record {
+      x = c .x + getD seen 3 0 + getD seen 5 0;
+      y = c .y + getD seen 1 0 + getD seen 7 0;
+      underflow = c .underflow + getD seen 0 0;
+      overflow = c .overflow + getD seen 8 0;
+      priority = c .priority + getD seen 2 0 + getD seen 4 0 + getD seen 6 0;
+    }
+
+pub record Roomy (c : Counters) (seen : List ℕ) : Type 0 where
+  pub x-room : c .x + getD seen 3 0 + getD seen 5 0 ≤ 4294967295
+  pub y-room : c .y + getD seen 1 0 + getD seen 7 0 ≤ 4294967295
+  pub underflow-room : c .underflow + getD seen 0 0 ≤ 4294967295
+  pub overflow-room : c .overflow + getD seen 8 0 ≤ 4294967295
+  pub priority-room : c .priority + getD seen 2 0 + getD seen 4 0 + getD seen 6 0 ≤ 4294967295

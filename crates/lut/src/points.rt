@@ -1,0 +1,56 @@
+// The points that the rows go by: each has a first number and what it rises by.
+ghost use mathlib.Core.Path.{_≡_};
+ghost use mathlib.Core.Bool.{true};
+ghost use Prim.Native.Nat.{_+_, _≤_, _<_};
+ghost use lib.ListN.{length, set};
+ghost use Rattle.lut.specs.Rules.{shiftTaken};
+ghost use Rattle.lut.specs.StepsRows.{slopeRise, Filled};
+use crate::Slope;
+use crate::numbers;
+
+// How far a slope rises at each step of its row.
+fn rise(s: Slope) -> i32
+    requires { ⌜ shiftTaken (s .shift) ≡ true ⌝ }
+    ensures { λ r. ⌜ r ≡ slopeRise s ⌝ }
+{
+    let scale = s.scale;
+    let shift = s.shift;
+    scale as i32 * numbers::power(numbers::below_zero(shift)) as i32
+}
+
+// Writes one point.
+fn write(firsts: &mut [i16; 326], rises: &mut [i32; 326], at: usize, first: i16, rise: i32)
+    requires { ⌜ at < 326 ⌝ }
+    ensures { λ _. ⌜ (now (firsts .exit) ≡ set (now (firsts .entry)) at first) × (now (rises .exit) ≡ set (now (rises .entry)) at rise) ⌝ }
+{
+    firsts[at] = first;
+    rises[at] = rise;
+}
+
+// The points of a table, from base on: one for each entry up to the last, then its two slopes.
+pub(crate) fn fill(
+    firsts: &mut [i16; 326],
+    rises: &mut [i32; 326],
+    table: &[i16],
+    base: usize,
+    last: usize,
+    below: Slope,
+    above: Slope,
+)
+    requires { ⌜ (length (now firsts) ≡ 326) × (length (now rises) ≡ 326) × (base + last ≤ 323) × (last < length (now table)) ⌝ }
+    requires { ⌜ (shiftTaken (below .shift) ≡ true) × (shiftTaken (above .shift) ≡ true) ⌝ }
+    ensures { λ _. ⌜ Filled (now (firsts .entry)) (now (rises .entry)) (now (firsts .exit)) (now (rises .exit)) (now (table .entry)) base last below above ⌝ }
+{
+    let mut i: usize = 0;
+    while i < last {
+        let a = table[i];
+        let b = table[i + 1];
+        write(firsts, rises, base + i, a, b as i32 - a as i32);
+        i += 1;
+    }
+    let start = table[0];
+    let end = table[last];
+    write(firsts, rises, base + last, end, 0);
+    write(firsts, rises, base + last + 1, start, rise(below));
+    write(firsts, rises, base + last + 2, end, rise(above));
+}
