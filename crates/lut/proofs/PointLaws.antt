@@ -89,10 +89,10 @@ pub record Begun (firsts₀ rises₀ firsts rises table : List ℤ) (base i : �
   pub fits : (j : ℕ) → j < i → mag (entry table j) < 32768
   pub firsts-kept : (j : ℕ) → j < base → entry firsts j ≡ entry firsts₀ j
   pub rises-kept : (j : ℕ) → j < base → entry rises j ≡ entry rises₀ j
-  pub firsts-long : length firsts ≡ 326
-  pub rises-long : length rises ≡ 326
+  pub firsts-long : length firsts ≡ 324
+  pub rises-long : length rises ≡ 324
 
-pub begun : (firsts rises table : List ℤ) (base : ℕ) → length firsts ≡ 326 → length rises ≡ 326 → Begun firsts rises firsts rises table base 0
+pub begun : (firsts rises table : List ℤ) (base : ℕ) → length firsts ≡ 324 → length rises ≡ 324 → Begun firsts rises firsts rises table base 0
 begun firsts rises table base h k =
     record {
       first = λ j l. absurd (omega arith);
@@ -105,7 +105,7 @@ begun firsts rises table base h k =
     }
 
 module _ {firsts₀ rises₀ firsts rises table : List ℤ} {base i : ℕ} (h : Begun firsts₀ rises₀ firsts rises table base i) (a b : ℤ) where
-  pub begun-next : base + i < 326 → a ≡ entry table i → b ≡ entry table (i + 1) -ℤ entry table i → mag (entry table i) < 32768
+  pub begun-next : base + i < 324 → a ≡ entry table i → b ≡ entry table (i + 1) -ℤ entry table i → mag (entry table i) < 32768
       → Begun firsts₀ rises₀ (set firsts (base + i) a) (set rises (base + i) b) table base (i + 1)
   begun-next l e f m =
       record {
@@ -136,60 +136,50 @@ module _ {firsts₀ rises₀ firsts rises table : List ℤ} {base i : ℕ} (h : 
         | no g ↦ h .fits j (omega (arith, g))
       ]
 
--- the last entry's point, and the two slopes'
+-- the last entry's point, and the slope below's
 module _ {firsts₀ rises₀ firsts rises table : List ℤ} {base last : ℕ} (h : Begun firsts₀ rises₀ firsts rises table base last) (start end : ℤ) (below above : Slope)
-    (room : base + last ≤ 323) (s : start ≡ entry table 0) (e : end ≡ entry table last) (m : mag (entry table last) < 32768) where
-  abbrev three : List ℤ → ℤ → ℤ → ℤ → List ℤ
-  three l a b c = set (set (set l (base + last) a) (base + last + 1) b) (base + last + 2) c
+    (room : base + last ≤ 322) (s : start ≡ entry table 0) (e : end ≡ entry table last) (m : mag (entry table last) < 32768) where
+  module _ (l : List ℤ) (a b : ℤ) (long : length l ≡ 324) where
+    abbrev two : List ℤ
+    two = set (set l (base + last) a) (base + last + 1) b
 
-  module _ (l : List ℤ) (a b c : ℤ) (long : length l ≡ 326) where
-    three-before : (j : ℕ) → j < base + last → entry (three l a b c) j ≡ entry l j
-    three-before j k =
-        entry-other (set (set l (base + last) a) (base + last + 1) b) (base + last + 2) c j (λ q. omega arith)
-        ∙ entry-other (set l (base + last) a) (base + last + 1) b j (λ q. omega arith) ∙ entry-other l (base + last) a j (λ q. omega arith)
+    two-before : (j : ℕ) → j < base + last → entry two j ≡ entry l j
+    two-before j k = entry-other (set l (base + last) a) (base + last + 1) b j (λ q. omega arith) ∙ entry-other l (base + last) a j (λ q. omega arith)
 
-    three-long : length (three l a b c) ≡ 326
-    three-long =
-        length-set (set (set l (base + last) a) (base + last + 1) b) (base + last + 2) c ∙ length-set (set l (base + last) a) (base + last + 1) b
-        ∙ length-set l (base + last) a ∙ long
+    two-long : length two ≡ 324
+    two-long = length-set (set l (base + last) a) (base + last + 1) b ∙ length-set l (base + last) a ∙ long
 
-    three-first : entry (three l a b c) (base + last) ≡ a
-    three-first =
-        entry-other (set (set l (base + last) a) (base + last + 1) b) (base + last + 2) c (base + last) (λ q. omega arith)
-        ∙ entry-other (set l (base + last) a) (base + last + 1) b (base + last) (λ q. omega arith) ∙ entry-same l (base + last) a (omega (arith, long))
+    two-first : entry two (base + last) ≡ a
+    two-first = entry-other (set l (base + last) a) (base + last + 1) b (base + last) (λ q. omega arith) ∙ entry-same l (base + last) a (omega (arith, long))
 
-    three-second : entry (three l a b c) (base + last + 1) ≡ b
-    three-second =
-        entry-other (set (set l (base + last) a) (base + last + 1) b) (base + last + 2) c (base + last + 1) (λ q. omega arith)
-        ∙ entry-same (set l (base + last) a) (base + last + 1) b (omega (arith, long, length-set l (base + last) a))
+    two-second : entry two (base + last + 1) ≡ b
+    two-second = entry-same (set l (base + last) a) (base + last + 1) b (omega (arith, long, length-set l (base + last) a))
 
-    three-third : entry (three l a b c) (base + last + 2) ≡ c
-    three-third =
-        entry-same (set (set l (base + last) a) (base + last + 1) b) (base + last + 2) c
-        (omega (arith, long, length-set l (base + last) a, length-set (set l (base + last) a) (base + last + 1) b))
-
-  pub filled : Filled firsts₀ rises₀ (three firsts end start end) (three rises (pos 0) (slopeRise below) (slopeRise above)) table base last below above
+  pub filled : Filled firsts₀ rises₀ (two firsts end start (h .firsts-long)) (two rises (slopeRise above) (slopeRise below) (h .rises-long)) table base last below above
   filled =
+      let f = h .firsts-long in
+      let r = h .rises-long in
+      let up = slopeRise above in
+      let down = slopeRise below in
       record {
         stored = record {
           first = λ i l. first-by i l;
-          rise = λ i l. three-before rises (pos 0) (slopeRise below) (slopeRise above) (h .rises-long) (base + i) (omega arith) ∙ h .rise i l;
+          rise = λ i l. two-before rises up down r (base + i) (omega arith) ∙ h .rise i l;
           fits = λ i l. fits-by i l;
-          first-below = three-second firsts end start end (h .firsts-long) ∙ s;
-          rise-below = three-second rises (pos 0) (slopeRise below) (slopeRise above) (h .rises-long);
-          first-above = three-third firsts end start end (h .firsts-long) ∙ e;
-          rise-above = three-third rises (pos 0) (slopeRise below) (slopeRise above) (h .rises-long);
+          first-below = two-second firsts end start f ∙ s;
+          rise-below = two-second rises up down r;
+          rise-above = two-first rises up down r;
         };
-        firsts-kept = λ j l. three-before firsts end start end (h .firsts-long) j (omega arith) ∙ h .firsts-kept j l;
-        rises-kept = λ j l. three-before rises (pos 0) (slopeRise below) (slopeRise above) (h .rises-long) j (omega arith) ∙ h .rises-kept j l;
-        firsts-long = three-long firsts end start end (h .firsts-long);
-        rises-long = three-long rises (pos 0) (slopeRise below) (slopeRise above) (h .rises-long);
+        firsts-kept = λ j l. two-before firsts end start f j (omega arith) ∙ h .firsts-kept j l;
+        rises-kept = λ j l. two-before rises up down r j (omega arith) ∙ h .rises-kept j l;
+        firsts-long = two-long firsts end start f;
+        rises-long = two-long rises up down r;
       }
     where
-      first-by : (i : ℕ) → i ≤ last → entry (three firsts end start end) (base + i) ≡ entry table i
+      first-by : (i : ℕ) → i ≤ last → entry (two firsts end start (h .firsts-long)) (base + i) ≡ entry table i
       first-by i l = elim (ℕ-discrete i last) [
-        | yes q ↦ rw q (three-first firsts end start end (h .firsts-long) ∙ e)
-        | no g ↦ three-before firsts end start end (h .firsts-long) (base + i) (omega (arith, g)) ∙ h .first i (omega (arith, g))
+        | yes q ↦ rw q (two-first firsts end start (h .firsts-long) ∙ e)
+        | no g ↦ two-before firsts end start (h .firsts-long) (base + i) (omega (arith, g)) ∙ h .first i (omega (arith, g))
       ]
 
       fits-by : (i : ℕ) → i ≤ last → mag (entry table i) < 32768
@@ -200,7 +190,7 @@ module _ {firsts₀ rises₀ firsts rises table : List ℤ} {base last : ℕ} (h
 
 -- a table's points stay where later ones are written
 pub stored-kept : {firsts₀ rises₀ firsts rises table : List ℤ} {base last : ℕ} {below above : Slope} → Stored firsts₀ rises₀ table base last below above
-    → ((j : ℕ) → j < base + last + 3 → entry firsts j ≡ entry firsts₀ j) → ((j : ℕ) → j < base + last + 3 → entry rises j ≡ entry rises₀ j)
+    → ((j : ℕ) → j < base + last + 2 → entry firsts j ≡ entry firsts₀ j) → ((j : ℕ) → j < base + last + 2 → entry rises j ≡ entry rises₀ j)
     → Stored firsts rises table base last below above
 stored-kept {base = base} {last = last} h f g =
     record {
@@ -209,6 +199,5 @@ stored-kept {base = base} {last = last} h f g =
       fits = h .fits;
       first-below = f (base + last + 1) (omega arith) ∙ h .first-below;
       rise-below = g (base + last + 1) (omega arith) ∙ h .rise-below;
-      first-above = f (base + last + 2) (omega arith) ∙ h .first-above;
-      rise-above = g (base + last + 2) (omega arith) ∙ h .rise-above;
+      rise-above = g (base + last) (omega arith) ∙ h .rise-above;
     }

@@ -59,7 +59,7 @@ pub record Inside (r : Row) (p : ℕ) (x : ℤ) : Type 0 where
   pub on-is : rowFar r x *ℤ r .on ≡ pos (natAbs (rowFar r x *ℤ r .on))
   pub on-le : natAbs (rowFar r x *ℤ r .on) ≤ 4294967295
   pub shift-le : r .shift + p ≤ 31
-  pub point-lt : rowPoint r p x < 326
+  pub point-lt : rowPoint r p x < 324
   pub rest-le : natAbs (rowRest r p x) ≤ 4294967295
 
 -- the distance whose power of 2 counts where the row is exponential
@@ -82,27 +82,27 @@ unfoldable pub lineRow : ℤ → ℤ → ℕ → Row
 lineRow start select base = record { origin = start; size = pos (2 ^ dn select); shift = up select; on = pos 1; base = base; wide = pos 0 }
 
 unfoldable pub powerRow : ℤ → ℤ → Row
-powerRow start offset = record { origin = start; size = pos 1; shift = 0; on = pos 1; base = natAbs (pos 258 -ℤ offset); wide = pos 1 }
+powerRow start offset = record { origin = start; size = pos 1; shift = 0; on = pos 1; base = natAbs (pos 257 -ℤ offset); wide = pos 1 }
 
--- a linear table, last entry N, its points from base on: N + 1 for its hits, then one for each slope
+-- a linear table, last entry N, its points from base on: N + 1 for its hits, the last of them also for the slope above, then one for the slope below
 unfoldable pub linearRows : YSettings → ℕ → ℕ → TableRows
 linearRows t base last =
     record {
       below = slopeRow (t .start) (t .below .shift) (base + last + 1);
       hit = lineRow (t .start) (t .select) base;
-      above = slopeRow (t .end) (t .above .shift) (base + last + 2);
+      above = slopeRow (t .end) (t .above .shift) (base + last);
     }
 
 unfoldable pub rowsX : XSettings → TableRows
 rowsX s = byMode (s .mode)
   where
     byMode : XMode → TableRows
-    byMode (Linear select) = linearRows (linearX s select) 259 64
+    byMode (Linear select) = linearRows (linearX s select) 258 64
     byMode (Exponential offset) =
         record {
-          below = slopeRow (s .start) (s .below .shift) 324;
+          below = slopeRow (s .start) (s .below .shift) 323;
           hit = powerRow (s .start) offset;
-          above = slopeRow (s .end) (s .above .shift) 325;
+          above = slopeRow (s .end) (s .above .shift) 322;
         }
 
 -- ---- the rows of all pairs of sides
@@ -151,23 +151,22 @@ wideOf (Exponential offset) = true
 unfoldable pub slopeRise : Slope → ℤ
 slopeRise s = s .scale *ℤ pos (2 ^ dn (s .shift))
 
--- a table's points from base on
+-- a table's points from base on: each entry rises to the next, the last as the slope above
 pub record Stored (firsts rises table : List ℤ) (base last : ℕ) (below above : Slope) : Type 0 where
   pub first : (i : ℕ) → i ≤ last → entry firsts (base + i) ≡ entry table i
   pub rise : (i : ℕ) → i < last → entry rises (base + i) ≡ entry table (i + 1) -ℤ entry table i
   pub fits : (i : ℕ) → i ≤ last → mag (entry table i) < 32768
   pub first-below : entry firsts (base + last + 1) ≡ entry table 0
   pub rise-below : entry rises (base + last + 1) ≡ slopeRise below
-  pub first-above : entry firsts (base + last + 2) ≡ entry table last
-  pub rise-above : entry rises (base + last + 2) ≡ slopeRise above
+  pub rise-above : entry rises (base + last) ≡ slopeRise above
 
 -- a table's points are written, and those before base stay
 pub record Filled (firsts₀ rises₀ firsts rises table : List ℤ) (base last : ℕ) (below above : Slope) : Type 0 where
   pub stored : Stored firsts rises table base last below above
   pub firsts-kept : (j : ℕ) → j < base → entry firsts j ≡ entry firsts₀ j
   pub rises-kept : (j : ℕ) → j < base → entry rises j ≡ entry rises₀ j
-  pub firsts-long : length firsts ≡ 326
-  pub rises-long : length rises ≡ 326
+  pub firsts-long : length firsts ≡ 324
+  pub rises-long : length rises ≡ 324
 
 -- ---- the loop
 

@@ -19,25 +19,25 @@ fn rise(s: Slope) -> i32
 }
 
 // Writes one point.
-fn write(firsts: &mut [i16; 326], rises: &mut [i32; 326], at: usize, first: i16, rise: i32)
-    requires { ⌜ at < 326 ⌝ }
+fn write(firsts: &mut [i16; 324], rises: &mut [i32; 324], at: usize, first: i16, rise: i32)
+    requires { ⌜ at < 324 ⌝ }
     ensures { λ _. ⌜ (now (firsts .exit) ≡ set (now (firsts .entry)) at first) × (now (rises .exit) ≡ set (now (rises .entry)) at rise) ⌝ }
 {
     firsts[at] = first;
     rises[at] = rise;
 }
 
-// The points of a table, from base on: one for each entry up to the last, then its two slopes.
+// The points of a table, from base on: one for each entry, the last rising as the slope above, then one for the slope below.
 pub(crate) fn fill(
-    firsts: &mut [i16; 326],
-    rises: &mut [i32; 326],
+    firsts: &mut [i16; 324],
+    rises: &mut [i32; 324],
     table: &[i16],
     base: usize,
     last: usize,
     below: Slope,
     above: Slope,
 )
-    requires { ⌜ (length (now firsts) ≡ 326) × (length (now rises) ≡ 326) × (base + last ≤ 323) × (last < length (now table)) ⌝ }
+    requires { ⌜ (length (now firsts) ≡ 324) × (length (now rises) ≡ 324) × (base + last ≤ 322) × (last < length (now table)) ⌝ }
     requires { ⌜ (shiftTaken (below .shift) ≡ true) × (shiftTaken (above .shift) ≡ true) ⌝ }
     ensures { λ _. ⌜ Filled (now (firsts .entry)) (now (rises .entry)) (now (firsts .exit)) (now (rises .exit)) (now (table .entry)) base last below above ⌝ }
 {
@@ -50,7 +50,6 @@ pub(crate) fn fill(
     }
     let start = table[0];
     let end = table[last];
-    write(firsts, rises, base + last, end, 0);
+    write(firsts, rises, base + last, end, rise(above));
     write(firsts, rises, base + last + 1, start, rise(below));
-    write(firsts, rises, base + last + 2, end, rise(above));
 }

@@ -56,14 +56,14 @@ fn power_row(start: i32, offset: i32) -> Row
         size: 1,
         shift: 0,
         on: 1,
-        base: (258 - offset) as usize,
+        base: (257 - offset) as usize,
         wide: 1,
     }
 }
 
 // The rows of a linear table with a last entry, its points from base on.
 pub(crate) fn linear_rows(t: YSettings, base: usize, last: usize) -> TableRows
-    requires { ⌜ (natAbs (t .select) ≤ 25) × (base + last ≤ 323) ⌝ }
+    requires { ⌜ (natAbs (t .select) ≤ 25) × (base + last ≤ 322) ⌝ }
     ensures { λ r. ⌜ r ≡ linearRows t base last ⌝ }
 {
     let start = t.start;
@@ -74,7 +74,7 @@ pub(crate) fn linear_rows(t: YSettings, base: usize, last: usize) -> TableRows
     TableRows {
         below: slope_row(start, below, base + last + 1),
         hit: line_row(start, select, base),
-        above: slope_row(end, above, base + last + 2),
+        above: slope_row(end, above, base + last),
     }
 }
 
@@ -97,13 +97,13 @@ pub(crate) fn rows_x(s: XSettings) -> TableRows
                 below: below,
                 above: above,
             },
-            259,
+            258,
             64,
         ),
         XMode::Exponential(offset) => TableRows {
-            below: slope_row(start, below.shift, 324),
+            below: slope_row(start, below.shift, 323),
             hit: power_row(start, offset),
-            above: slope_row(end, above.shift, 325),
+            above: slope_row(end, above.shift, 322),
         },
     }
 }

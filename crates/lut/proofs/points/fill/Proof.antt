@@ -90,6 +90,9 @@ shared-slice-copy-out-end c = c .before .before .before .pre .0 .3
 add-write-2 : tie.Need-add-write-2 Inv-loop μ-loop
 add-write-2 c = search needs
 
+rise-requires : tie.Need-rise-requires Inv-loop μ-loop
+rise-requires c κs = search needs
+
 write-requires-2 : tie.Need-write-requires-2 Inv-loop μ-loop
 write-requires-2 c κs = search needs
 
@@ -99,46 +102,31 @@ add-write-3 c = search needs
 add-write-4 : tie.Need-add-write-4 Inv-loop μ-loop
 add-write-4 c = search needs
 
-rise-requires : tie.Need-rise-requires Inv-loop μ-loop
-rise-requires c κs = search needs
+rise-requires-2 : tie.Need-rise-requires-2 Inv-loop μ-loop
+rise-requires-2 c κs = search needs
 
 write-requires-3 : tie.Need-write-requires-3 Inv-loop μ-loop
 write-requires-3 c κs = search needs
 
-add-write-5 : tie.Need-add-write-5 Inv-loop μ-loop
-add-write-5 c = search needs
-
-add-write-6 : tie.Need-add-write-6 Inv-loop μ-loop
-add-write-6 c = search needs
-
-rise-requires-2 : tie.Need-rise-requires-2 Inv-loop μ-loop
-rise-requires-2 c κs = search needs
-
-write-requires-4 : tie.Need-write-requires-4 Inv-loop μ-loop
-write-requires-4 c κs = search needs
-
 returns : tie.Need-returns Inv-loop μ-loop
 unfolding entry
 returns c =
-    let w3 = c .before .before .before .before in
-    let w2 = w3 .before .before .before .before in
-    let e = w2 .before .before .before in
+    let w = c .before .before .before .before in
+    let e = w .before .before .before .before in
     let l = e .before .before .before in
     let a = l .before .args in
     let table = a .table .now in
     let all : l .loop .i ≡ a .last = omega arith in
     let h = subst (λ (n : ℕ). Begun (a .firsts .now) (a .rises .now) (l .loop .firsts) (l .loop .rises) table (a .base) n) all (l .loop .inv .1) in
-    let below = w3 .before .rise in
-    let above = c .before .rise2 in
+    let above = w .before .rise in
+    let below = c .before .rise2 in
     rw (
-      c .write4 .ensures .0,
-      c .write4 .ensures .1,
-      w3 .write3 .ensures .0,
-      w3 .write3 .ensures .1,
-      w2 .write2 .ensures .0,
-      w2 .write2 .ensures .1,
-      back32 (below .result) (below .ok) ∙ below .ensures,
+      c .write3 .ensures .0,
+      c .write3 .ensures .1,
+      w .write2 .ensures .0,
+      w .write2 .ensures .1,
       back32 (above .result) (above .ok) ∙ above .ensures,
+      back32 (below .result) (below .ok) ∙ below .ensures,
     )
     (filled h _ _ (a .below) (a .above) (l .before .pre .0 .2) (back16 (getD table 0 (pos 0)) (e .before .start .given)) (back16 (getD table (a .last) (pos 0)) (e .end .given)) (e .end .given))
 
@@ -166,13 +154,10 @@ fill-spec =
     mul-end
     shared-slice-copy-out-end
     add-write-2
+    rise-requires
     write-requires-2
     add-write-3
     add-write-4
-    rise-requires
-    write-requires-3
-    add-write-5
-    add-write-6
     rise-requires-2
-    write-requires-4
+    write-requires-3
     returns)

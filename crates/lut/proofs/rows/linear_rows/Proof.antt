@@ -22,9 +22,6 @@ line-row-requires c κs = search needs
 add-slope-row-3 : tie.Need-add-slope-row-3
 add-slope-row-3 c = search needs
 
-add-slope-row-4 : tie.Need-add-slope-row-4
-add-slope-row-4 c = search needs
-
 slope-row-requires-2 : tie.Need-slope-row-requires-2
 slope-row-requires-2 c κs = search needs
 
@@ -39,7 +36,7 @@ returns c =
     let below : c .before .before .slope-row .result ≡ slopeRow (t .start) (t .below .shift) (a .base + a .last + 1)
     = simp (start, back32 (t .below .shift) (g .1 .1 .1 .0 .1 .1 .1 .0 .1)) at (c .before .before .slope-row .ensures) in
     let hit : c .before .line-row .result ≡ lineRow (t .start) (t .select) (a .base) = simp (start, back32 (t .select) (g .0 .1)) at (c .before .line-row .ensures) in
-    let above : c .slope-row2 .result ≡ slopeRow (t .end) (t .above .shift) (a .base + a .last + 2)
+    let above : c .slope-row2 .result ≡ slopeRow (t .end) (t .above .shift) (a .base + a .last)
     = simp (back32 (t .end) (g .1 .1 .0 .1), back32 (t .above .shift) (g .1 .1 .1 .1 .0 .1 .1 .1 .0 .1)) at (c .slope-row2 .ensures) in
     rw (below, hit, above) refl
 
@@ -52,6 +49,5 @@ linear-rows-spec =
     slope-row-requires
     line-row-requires
     add-slope-row-3
-    add-slope-row-4
     slope-row-requires-2
     returns)

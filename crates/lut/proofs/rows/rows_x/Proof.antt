@@ -46,7 +46,7 @@ returns c =
     let g = k .before .mode .given in
     let t = k .before .before .before .before .before .before in
     let s = t .before .args .s in
-    let r : c .linear-rows .result ≡ linearRows (linearX s (g .0 .0)) 259 64
+    let r : c .linear-rows .result ≡ linearRows (linearX s (g .0 .0)) 258 64
     = simp (back32 (g .0 .0) (k .known-told .given .0 .1), back32 (s .start) (t .struct-told .given .1 .0 .1), back32 (s .end) (t .struct-told .given .1 .1 .0 .1))
     at (c .linear-rows .ensures) in
     rw (g .1) r
@@ -62,10 +62,10 @@ returns-2 c =
     let s = t .before .args .s in
     let told = t .struct-told .given in
     let start = back32 (s .start) (told .1 .0 .1) in
-    let below : b .slope-row .result ≡ slopeRow (s .start) (s .below .shift) 324
+    let below : b .slope-row .result ≡ slopeRow (s .start) (s .below .shift) 323
     = simp (start, back32 (s .below .shift) (told .1 .1 .1 .0 .1 .1 .1 .0 .1)) at (b .slope-row .ensures) in
     let hit : p .power-row .result ≡ powerRow (s .start) (g .0 .0) = simp (start, back32 (g .0 .0) (k .known-told2 .given .0 .1)) at (p .power-row .ensures) in
-    let above : c .slope-row2 .result ≡ slopeRow (s .end) (s .above .shift) 325
+    let above : c .slope-row2 .result ≡ slopeRow (s .end) (s .above .shift) 322
     = simp (back32 (s .end) (told .1 .1 .0 .1), back32 (s .above .shift) (told .1 .1 .1 .1 .0 .1 .1 .1 .0 .1)) at (c .slope-row2 .ensures) in
     rw (g .1, below, hit, above) refl
 

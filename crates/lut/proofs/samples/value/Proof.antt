@@ -72,7 +72,7 @@ at-is c =
     let a = start c .args in
     ap (λ (n : ℕ). a .r .base + a .p + n) (steps-is (far c) (far-held (c .before .before .before)) (on-fit c) (h .on-is) (h .on-le) (m c))
 
-at-lt : (c : tie.After-struct-told3) → at c < 326
+at-lt : (c : tie.After-struct-told3) → at c < 324
 at-lt c = rw (at-is c) (start c .pre .point-lt)
 
 add-at : tie.Need-add-at
