@@ -12,7 +12,7 @@ use lib.Count.{leadingZeros, leading-top, leading-of-zero}
 use lib.Dec.{lit<, ltb}
 use lib.Pow.{pow-pos}
 use lib.IntN.{ℤ, pos, negsuc, _-ℤ_}
-use Rattle.integers.proofs.UpDown.{up, dn, ud-inj, take-ud, leZ-true}
+use Rattle.integers.proofs.UpDown.{ud-inj, take-ud, leZ-true}
 use Rattle.lut.specs.Tables.{reaches}
 use Rattle.lut.specs.Numbers.{between, logBelow}
 use Rattle.lut.proofs.NumberLaws.{between-ud}

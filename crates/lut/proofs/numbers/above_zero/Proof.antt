@@ -1,7 +1,7 @@
 -- `lut::numbers::above_zero` meets its contract: by the sign. Assumes nothing.
-use mathlib.Core.Path.{_≡_, ap, _∙_}
+use mathlib.Core.Path.{_≡_}
 use mathlib.Core.Bool.{true, false}
-use lib.IntN.{ℤ, pos, natAbs}
+use lib.IntN.{pos}
 use lib.Signed.{ltZ}
 use mir.Facts.{toZ-ofZ}
 use Rattle.lut.proofs.NumberLaws.{up-neg, up-pos, above-cast}

@@ -1,17 +1,15 @@
 -- `lut::points::fill` meets its contract. The loop's invariant: the points of the first i entries are written. Assumes nothing.
-use Prim.Native.Nat.{ℕ, _+_, _-_, _≤_, _<_}
+use Prim.Native.Nat.{ℕ, _+_, _-_, _≤_}
 use native.Mathlib.Omega.{arith}
-use mathlib.Core.Path.{_≡_, refl, sym, ap, ap₂, subst, _∙_}
-use mathlib.Core.List.{List}
-use lib.ListN.{length, getD, set}
-use lib.IntN.{ℤ, pos}
+use mathlib.Core.Path.{_≡_, subst, _∙_}
+use lib.ListN.{getD}
+use lib.IntN.{pos}
 use borrow.Author.Needs.{needs}
-use mir.Syntax.{w16, w32}
+use mir.Syntax.{w16}
 use mir.Val.{SFits}
 use mir.Facts.{sfits-widen}
 use Rattle.integers.proofs.Casts.{cast-fits}
 use Rattle.lut.specs.Tables.{entry}
-use Rattle.lut.specs.StepsRows.{Filled, slopeRise}
 use Rattle.lut.proofs.NumberLaws.{back16, back32}
 use Rattle.lut.proofs.PointLaws.{step-fits, step-value, Begun, begun, begun-next, filled}
 use Rattle.lut.proofs.points.fill.Statement.{statement}

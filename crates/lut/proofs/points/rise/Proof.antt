@@ -1,15 +1,13 @@
 -- `lut::points::rise` meets its contract: the product stays within 32 bits. Assumes nothing.
 use Prim.Native.Nat.{_^_, _≤_}
 use native.Mathlib.Omega.{arith}
-use mathlib.Core.Path.{_≡_, sym, ap, subst, _∙_}
-use lib.IntN.{ℤ}
+use mathlib.Core.Path.{_≡_, ap, _∙_}
 use mir.Syntax.{w16}
 use mir.Val.{SFits}
 use mir.Facts.{sfits-widen}
 use Rattle.integers.proofs.Casts.{cast-fits}
 use Rattle.integers.proofs.UpDown.{dn}
-use Rattle.lut.specs.Rules.{shiftTaken}
-use Rattle.lut.proofs.NumberLaws.{back32, between-abs, ud-abs}
+use Rattle.lut.proofs.NumberLaws.{back32, ud-abs}
 use Rattle.lut.proofs.PointLaws.{shift-ud, rise-le, count-fits, rise-fits, rise-value}
 use Rattle.lut.proofs.points.rise.Statement.{statement}
 use Rattle.lut.proofs.points.rise.Tie as tie

@@ -1,10 +1,7 @@
 -- `lut::rows::rows_x` meets its contract: its cases are the definition's. Assumes nothing.
 use native.Mathlib.Omega.{arith}
-use mathlib.Core.Path.{_≡_, refl, sym, _∙_}
-use lib.IntN.{ℤ}
+use mathlib.Core.Path.{_≡_, refl, _∙_}
 use borrow.Author.Needs.{needs}
-use Rattle.lut.specs.declared.XMode.the-variants.{Linear, Exponential}
-use Rattle.lut.specs.declared.XSettings.{XSettings}
 use Rattle.lut.specs.Tables.{linearX}
 use Rattle.lut.specs.StepsRows.{slopeRow, powerRow, linearRows, rowsX}
 use Rattle.lut.proofs.NumberLaws.{back32, between-abs, ud-abs}

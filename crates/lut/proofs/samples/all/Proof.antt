@@ -1,6 +1,4 @@
 -- `lut::samples::all` meets its contract: each loop is called where its rows are. Assumes nothing.
-use mathlib.Core.Path.{_≡_, sym, subst}
-use mathlib.Core.Bool.{Bool, true, false}
 use borrow.Author.Needs.{needs}
 use Rattle.lut.proofs.samples.all.Statement.{statement}
 use Rattle.lut.proofs.samples.all.Tie as tie

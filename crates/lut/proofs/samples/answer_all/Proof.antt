@@ -1,14 +1,10 @@
 -- `lut::samples::answer_all` meets its contract: points, rows and bounds are the settings', and the loop goes by them. Assumes nothing.
-use Prim.Native.Nat.{ℕ, _+_, _≤_, _<_}
 use native.Mathlib.Omega.{arith}
-use mathlib.Core.Path.{_≡_, refl, sym, ap, ap₂, subst, _∙_}
+use mathlib.Core.Path.{_≡_, refl, ap, ap₂, _∙_}
 use mathlib.Core.List.{List, map}
-use lib.IntN.{ℤ, pos, natAbs}
-use lib.ListN.{length}
-use lib.Signed.{mag}
+use lib.IntN.{ℤ}
 use borrow.Author.Needs.{needs}
 use Rattle.lut.specs.declared.TableRows.{TableRows}
-use Rattle.lut.specs.Rules.{counterSum}
 use Rattle.lut.specs.Samples.{sampleAnswer}
 use Rattle.lut.specs.StepsRows.{linearRows, rowsX, rowsOf, boundsOf, wideOf, SettingsFit, Stored, pairOf, pairAnswer, Tally, countAt}
 use Rattle.lut.proofs.NumberLaws.{between-abs, ud-abs}

@@ -1,10 +1,10 @@
 -- `lut::samples::each` meets its contract. The loop's invariant: the first i outputs are the rows' answers, the pairs of the first i samples are counted, and
 -- those samples are numbers of 32 bits. Assumes nothing.
-use Prim.Native.Nat.{ℕ, _+_, _-_, _≤_, _<_}
+use Prim.Native.Nat.{ℕ, _-_, _≤_, _<_}
 use native.Mathlib.Decide.{ℕ-discrete}
 use native.Mathlib.Omega.{arith}
-use mathlib.Core.Path.{_≡_, refl, sym, ap, ap₂, subst, _∙_}
-use mathlib.Core.List.{List, map}
+use mathlib.Core.Path.{_≡_, refl, sym, ap, ap₂, _∙_}
+use mathlib.Core.List.{map}
 use lib.ListN.{length, getD, take, length-set}
 use lib.Seq.{take-length}
 use lib.IntN.{ℤ, pos}
@@ -12,7 +12,7 @@ use lib.Signed.{mag}
 use mir.Syntax.{w32}
 use mir.Val.{toZ, ofZ}
 use Rattle.lut.specs.declared.Row.{Row}
-use Rattle.lut.specs.StepsRows.{rowAnswer, rowPower, Powered, Inside, pairOf, rowFor, pairAnswer, countAt, Tally}
+use Rattle.lut.specs.StepsRows.{rowAnswer, rowPower, pairOf, rowFor, pairAnswer, countAt, Tally}
 use Rattle.lut.proofs.NumberLaws.{back32}
 use Rattle.lut.proofs.PlanLaws.{pair-lt}
 use Rattle.lut.proofs.LoopLaws.{answered-next, answered-all, tally-le, tally-next}

@@ -1,7 +1,7 @@
 -- `lut::samples::first_x` meets its contract: the sum stays within 64 bits. Assumes nothing.
 use Prim.Native.Nat.{_^_, _≤_}
 use native.Mathlib.Omega.{arith}
-use mathlib.Core.Path.{_≡_, refl, ap, _∙_}
+use mathlib.Core.Path.{_≡_, ap, _∙_}
 use lib.IntN.{pos, _+ℤ_}
 use borrow.Author.Needs.{needs}
 use mir.Syntax.{w32}
