@@ -82,6 +82,17 @@ module _ (l : List ℤ) (at : ℕ) (v : ℤ) where
   unfolding entry
   entry-other j f = getD-set-other l at j v (pos 0) f
 
+-- what holds of the numbers before i holds of i too
+step-by : (l : List ℤ) (base i : ℕ) (v : ℤ) (f : ℕ → ℤ) → base + i < length l → ((j : ℕ) → j < i → entry l (base + j) ≡ f j) → v ≡ f i
+    → (j : ℕ) → j < i + 1 → entry (set l (base + i) v) (base + j) ≡ f j
+step-by l base i v f h before e j k = elim (ℕ-discrete j i) [
+  | yes q ↦ rw q (entry-same l (base + i) v h ∙ e)
+  | no g ↦ entry-other l (base + i) v (base + j) (λ q. g (omega arith)) ∙ before j (omega (arith, g))
+]
+
+fits-by : (table : List ℤ) (i : ℕ) → ((j : ℕ) → j < i → mag (entry table j) < 32768) → mag (entry table i) < 32768 → (j : ℕ) → j < i + 1 → mag (entry table j) < 32768
+fits-by table i before m j k = elim (ℕ-discrete j i) [ yes q ↦ rw q m | no g ↦ before j (omega (arith, g)) ]
+
 -- the points of the first i entries are written, and those before base stay
 pub record Begun (firsts₀ rises₀ firsts rises table : List ℤ) (base i : ℕ) : Type 0 where
   pub first : (j : ℕ) → j < i → entry firsts (base + j) ≡ entry table j
@@ -109,32 +120,14 @@ module _ {firsts₀ rises₀ firsts rises table : List ℤ} {base i : ℕ} (h : 
       → Begun firsts₀ rises₀ (set firsts (base + i) a) (set rises (base + i) b) table base (i + 1)
   begun-next l e f m =
       record {
-        first = λ j k. first-by j k;
-        rise = λ j k. rise-by j k;
-        fits = λ j k. fits-by j k;
+        first = step-by firsts base i a (entry table) (omega (arith, h .firsts-long)) (h .first) e;
+        rise = step-by rises base i b (λ j. entry table (j + 1) -ℤ entry table j) (omega (arith, h .rises-long)) (h .rise) f;
+        fits = fits-by table i (h .fits) m;
         firsts-kept = λ j k. entry-other firsts (base + i) a j (λ q. omega arith) ∙ h .firsts-kept j k;
         rises-kept = λ j k. entry-other rises (base + i) b j (λ q. omega arith) ∙ h .rises-kept j k;
         firsts-long = length-set firsts (base + i) a ∙ h .firsts-long;
         rises-long = length-set rises (base + i) b ∙ h .rises-long;
       }
-    where
-      first-by : (j : ℕ) → j < i + 1 → entry (set firsts (base + i) a) (base + j) ≡ entry table j
-      first-by j k = elim (ℕ-discrete j i) [
-        | yes q ↦ rw q (entry-same firsts (base + i) a (omega (arith, h .firsts-long)) ∙ e)
-        | no g ↦ entry-other firsts (base + i) a (base + j) (λ q. g (omega arith)) ∙ h .first j (omega (arith, g))
-      ]
-
-      rise-by : (j : ℕ) → j < i + 1 → entry (set rises (base + i) b) (base + j) ≡ entry table (j + 1) -ℤ entry table j
-      rise-by j k = elim (ℕ-discrete j i) [
-        | yes q ↦ rw q (entry-same rises (base + i) b (omega (arith, h .rises-long)) ∙ f)
-        | no g ↦ entry-other rises (base + i) b (base + j) (λ q. g (omega arith)) ∙ h .rise j (omega (arith, g))
-      ]
-
-      fits-by : (j : ℕ) → j < i + 1 → mag (entry table j) < 32768
-      fits-by j k = elim (ℕ-discrete j i) [
-        | yes q ↦ rw q m
-        | no g ↦ h .fits j (omega (arith, g))
-      ]
 
 -- the last entry's point, and the slope below's
 module _ {firsts₀ rises₀ firsts rises table : List ℤ} {base last : ℕ} (h : Begun firsts₀ rises₀ firsts rises table base last) (start end : ℤ) (below above : Slope)
@@ -163,9 +156,10 @@ module _ {firsts₀ rises₀ firsts rises table : List ℤ} {base last : ℕ} (h
       let down = slopeRise below in
       record {
         stored = record {
-          first = λ i l. first-by i l;
+          first = λ i l. entry-other (set firsts (base + last) end) (base + last + 1) start (base + i) (λ q. omega arith)
+              ∙ step-by firsts base last end (entry table) (omega (arith, f)) (h .first) e i (omega arith);
           rise = λ i l. two-before rises up down r (base + i) (omega arith) ∙ h .rise i l;
-          fits = λ i l. fits-by i l;
+          fits = λ i l. fits-by table last (h .fits) m i (omega arith);
           first-below = two-second firsts end start f ∙ s;
           rise-below = two-second rises up down r;
           rise-above = two-first rises up down r;
@@ -175,18 +169,6 @@ module _ {firsts₀ rises₀ firsts rises table : List ℤ} {base last : ℕ} (h
         firsts-long = two-long firsts end start f;
         rises-long = two-long rises up down r;
       }
-    where
-      first-by : (i : ℕ) → i ≤ last → entry (two firsts end start (h .firsts-long)) (base + i) ≡ entry table i
-      first-by i l = elim (ℕ-discrete i last) [
-        | yes q ↦ rw q (two-first firsts end start (h .firsts-long) ∙ e)
-        | no g ↦ two-before firsts end start (h .firsts-long) (base + i) (omega (arith, g)) ∙ h .first i (omega (arith, g))
-      ]
-
-      fits-by : (i : ℕ) → i ≤ last → mag (entry table i) < 32768
-      fits-by i l = elim (ℕ-discrete i last) [
-        | yes q ↦ rw q m
-        | no g ↦ h .fits i (omega (arith, g))
-      ]
 
 -- a table's points stay where later ones are written
 pub stored-kept : {firsts₀ rises₀ firsts rises table : List ℤ} {base last : ℕ} {below above : Slope} → Stored firsts₀ rises₀ table base last below above
