@@ -23,7 +23,7 @@ use Rattle.integers.proofs.Casts.{cast-value}
 use Rattle.lut.specs.declared.Slope.{Slope}
 use Rattle.lut.specs.Tables.{entry}
 use Rattle.lut.specs.Rules.{shiftTaken}
-use Rattle.lut.specs.StepsRows.{slopeRise, Stored, Filled}
+use Rattle.lut.specs.StepsPoints.{slopeRise, Stored, Filled}
 use Rattle.lut.proofs.NumberLaws.{between-abs, nat-within, ud-fits}
 
 -- ---- a slope's rise

@@ -4,7 +4,7 @@ ghost use mathlib.Core.Bool.{true};
 ghost use Prim.Native.Nat.{_+_, _≤_, _<_};
 ghost use lib.ListN.{length, set};
 ghost use Rattle.lut.specs.Rules.{shiftTaken};
-ghost use Rattle.lut.specs.StepsRows.{slopeRise, Filled};
+ghost use Rattle.lut.specs.StepsPoints.{slopeRise, Filled};
 use crate::Slope;
 use crate::numbers;
 

@@ -6,7 +6,9 @@ use lib.IntN.{ℤ}
 use borrow.Author.Needs.{needs}
 use Rattle.lut.specs.declared.TableRows.{TableRows}
 use Rattle.lut.specs.Samples.{sampleAnswer}
-use Rattle.lut.specs.StepsRows.{linearRows, rowsX, rowsOf, boundsOf, wideOf, SettingsFit, Stored, pairOf, pairAnswer, Tally, countAt}
+use Rattle.lut.specs.StepsRows.{linearRows, rowsX, rowsOf}
+use Rattle.lut.specs.StepsPoints.{Stored}
+use Rattle.lut.specs.StepsLoop.{boundsOf, wideOf, SettingsFit, pairOf, pairAnswer, Tally, countAt}
 use Rattle.lut.proofs.NumberLaws.{between-abs, ud-abs}
 use Rattle.lut.proofs.PlaceLaws.{yTaken-parts, xTaken-mode, xTaken-below, xTaken-above}
 use Rattle.lut.proofs.PointLaws.{stored-kept}

@@ -3,7 +3,7 @@ use mathlib.Core.Path.{refl, _∙_}
 use borrow.Author.Needs.{needs}
 use mir.Facts.{sfits-widen}
 use Rattle.integers.proofs.Casts.{cast-fits, cast-value}
-use Rattle.lut.specs.StepsRows.{boundsOf, SettingsFit}
+use Rattle.lut.specs.StepsLoop.{boundsOf, SettingsFit}
 use Rattle.lut.proofs.NumberLaws.{back64}
 use Rattle.lut.proofs.samples.bounds_of.Statement.{statement}
 use Rattle.lut.proofs.samples.bounds_of.Tie as tie

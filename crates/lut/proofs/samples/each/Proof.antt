@@ -12,7 +12,8 @@ use lib.Signed.{mag}
 use mir.Syntax.{w32}
 use mir.Val.{toZ, ofZ}
 use Rattle.lut.specs.declared.Row.{Row}
-use Rattle.lut.specs.StepsRows.{rowAnswer, rowPower, pairOf, rowFor, pairAnswer, countAt, Tally}
+use Rattle.lut.specs.StepsRows.{rowAnswer, rowPower}
+use Rattle.lut.specs.StepsLoop.{pairOf, rowFor, pairAnswer, countAt, Tally}
 use Rattle.lut.proofs.NumberLaws.{back32}
 use Rattle.lut.proofs.PlanLaws.{pair-lt}
 use Rattle.lut.proofs.LoopLaws.{answered-next, answered-all, tally-le, tally-next}

@@ -9,7 +9,7 @@ use mir.Val.{SFits}
 use mir.Facts.{sfits-widen}
 use Rattle.integers.proofs.UpDown.{up}
 use Rattle.integers.proofs.Casts.{cast-fits, cast-value}
-use Rattle.lut.specs.StepsRows.{firstX}
+use Rattle.lut.specs.StepsLoop.{firstX}
 use Rattle.lut.proofs.NumberLaws.{back32, power-le, between-abs}
 use Rattle.lut.proofs.AnswerLaws.{modeTaken-exponential}
 use Rattle.lut.proofs.RuleLaws.{sum-fits, sum-value}

@@ -4,7 +4,7 @@ use native.Mathlib.Omega.{arith}
 use mathlib.Core.Path.{_≡_, ap₂}
 use borrow.Author.Needs.{needs}
 use mir.Facts.{toZ-ofZ}
-use Rattle.lut.specs.StepsRows.{sideOf, pairOf}
+use Rattle.lut.specs.StepsLoop.{sideOf, pairOf}
 use Rattle.lut.proofs.PlanLaws.{side-le}
 use Rattle.lut.proofs.samples.pair.Statement.{statement}
 use Rattle.lut.proofs.samples.pair.Tie as tie

@@ -8,7 +8,7 @@ use lib.Signed.{leZ, ltZ}
 use borrow.Author.Needs.{needs}
 use mir.Facts.{sfits-widen}
 use Rattle.integers.proofs.Casts.{cast-fits, cast-value}
-use Rattle.lut.specs.StepsRows.{sideOf}
+use Rattle.lut.specs.StepsLoop.{sideOf}
 use Rattle.lut.proofs.NumberLaws.{back64}
 use Rattle.lut.proofs.PlanLaws.{side-le}
 use Rattle.lut.proofs.samples.side.Statement.{statement}

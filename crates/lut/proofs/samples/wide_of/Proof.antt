@@ -1,6 +1,6 @@
 -- `lut::samples::wide_of` meets its contract: its cases are the definition's. Assumes nothing.
 use borrow.Author.Needs.{needs}
-use Rattle.lut.specs.StepsRows.{wideOf}
+use Rattle.lut.specs.StepsLoop.{wideOf}
 use Rattle.lut.proofs.samples.wide_of.Statement.{statement}
 use Rattle.lut.proofs.samples.wide_of.Tie as tie
 
