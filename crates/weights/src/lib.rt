@@ -40,6 +40,7 @@ fn check(layout: WeightLayout, given: usize, len: usize) -> Answer
     }
     Answer::Accepted
 }
+
 // Packs raw weights into a buffer: checks 1, 2, 6, 5, 7.
 pub fn pack(layout: WeightLayout, elements: &[i16], buffer: &mut [u8]) -> Answer
     ensures { λ r. ⌜ r ≡ packAnswer layout (now (elements .entry)) (length (now (buffer .entry))) ⌝ }

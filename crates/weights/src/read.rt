@@ -20,7 +20,7 @@ pub(crate) fn runs(layout: WeightLayout, buffer: &[u8], elements: &mut [i16])
         kernel: 0,
     };
     while run.first < layout.kernels {
-        columns::read(walk::place(layout, run), buffer, elements);
+        columns::read(walk::run_columns(layout, run), buffer, elements);
         run = walk::next(layout, run);
     }
 }

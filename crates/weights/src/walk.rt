@@ -51,7 +51,7 @@ fn run_width(layout: WeightLayout, kernels: u32, channels: u32) -> u32
 }
 
 // The columns of a run.
-pub(crate) fn place(layout: WeightLayout, run: Run) -> ColumnBlock
+pub(crate) fn run_columns(layout: WeightLayout, run: Run) -> ColumnBlock
     requires { ⌜ sizesTaken layout ≡ true ⌝ }
     requires { ⌜ AtRun layout run ⌝ }
     ensures { λ r. ⌜ r ≡ runColumns layout run ⌝ }

@@ -20,7 +20,7 @@ pub(crate) fn runs(layout: WeightLayout, elements: &[i16], buffer: &mut [u8])
         kernel: 0,
     };
     while run.first < layout.kernels {
-        columns::write(walk::place(layout, run), elements, buffer);
+        columns::write(walk::run_columns(layout, run), elements, buffer);
         run = walk::next(layout, run);
     }
 }

@@ -38,8 +38,8 @@ run-at c = head c .loop .inv .at (c .if1 .taken)
 loop-holds : tie.Need-loop-holds Inv-loop μ-loop
 loop-holds c = let s = c .before in let a = s .args in read-first (a .layout) (a .buffer .now) (adm s .layout) (a .elements .now)
 
-place-requires : tie.Need-place-requires Inv-loop μ-loop
-place-requires c κs = (adm (entry (head c)) .sizes, run-at c)
+run-columns-requires : tie.Need-run-columns-requires Inv-loop μ-loop
+run-columns-requires c κs = (adm (entry (head c)) .sizes, run-at c)
 
 read-requires : tie.Need-read-requires Inv-loop μ-loop
 read-requires c κs = search needs
@@ -63,7 +63,7 @@ loop-again c =
     let s = entry (head t) in
     let a = s .args in
     read-next (a .layout) (a .buffer .now) (adm s .layout) (adm s .room) (a .elements .now) (adm s .count) (l .run) (c .next .result)
-    (run-at t) (l .inv) (w .read .ensures ∙ ap (λ (k : ColumnBlock). blockRead k (a .buffer .now) (l .elements)) (p .place .ensures)) (c .next .ensures)
+    (run-at t) (l .inv) (w .read .ensures ∙ ap (λ (k : ColumnBlock). blockRead k (a .buffer .now) (l .elements)) (p .run-columns .ensures)) (c .next .ensures)
 
 same-length : tie.Need-same-length Inv-loop μ-loop
 same-length c = c .before .before .before .loop .inv .toward .long
@@ -83,7 +83,7 @@ runs-spec =
     Inv-loop
     μ-loop
     loop-holds
-    place-requires
+    run-columns-requires
     read-requires
     next-requires
     loop-less

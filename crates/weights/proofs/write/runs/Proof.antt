@@ -39,8 +39,8 @@ run-at c = head c .loop .inv .at (c .if1 .taken)
 loop-holds : tie.Need-loop-holds Inv-loop μ-loop
 loop-holds c = let s = c .before in let a = s .args in write-first (a .layout) (a .elements .now) (a .buffer .now) (adm s .layout)
 
-place-requires : tie.Need-place-requires Inv-loop μ-loop
-place-requires c κs = (adm (entry (head c)) .sizes, run-at c)
+run-columns-requires : tie.Need-run-columns-requires Inv-loop μ-loop
+run-columns-requires c κs = (adm (entry (head c)) .sizes, run-at c)
 
 write-requires : tie.Need-write-requires Inv-loop μ-loop
 write-requires c κs = search needs
@@ -64,7 +64,7 @@ loop-again c =
     let s = entry (head t) in
     let a = s .args in
     write-next (a .layout) (a .elements .now) (a .buffer .now) (adm s .room) (adm s .layout) (adm s .count) (l .run) (c .next .result)
-    (run-at t) (l .inv) (w .write .ensures ∙ ap (λ (k : ColumnBlock). blockWritten k (a .elements .now) (l .buffer)) (p .place .ensures)) (c .next .ensures)
+    (run-at t) (l .inv) (w .write .ensures ∙ ap (λ (k : ColumnBlock). blockWritten k (a .elements .now) (l .buffer)) (p .run-columns .ensures)) (c .next .ensures)
 
 same-length : tie.Need-same-length Inv-loop μ-loop
 same-length c = c .before .before .before .loop .inv .toward .long
@@ -84,7 +84,7 @@ runs-spec =
     Inv-loop
     μ-loop
     loop-holds
-    place-requires
+    run-columns-requires
     write-requires
     next-requires
     loop-less
