@@ -1,16 +1,19 @@
 -- The statements of Theorem.antt, from the laws of one call: program and model start in step, and the empty table's regions are apart. Assumes nothing.
 use Prim.Native.Nat.{ℕ, _+_, _<_}
-use mathlib.Core.Path.{_≡_, refl, subst, _∙_}
+use mathlib.Core.Path.{_≡_, refl, sym, ap, subst, _∙_}
 use mathlib.Core.Logic.{_≢_}
 use mathlib.Core.Bool.{true}
 use mathlib.Core.List.{List, map}
 use lib.ListN.{length, getD}
 use lib.IntN.{ℤ}
 use Rattle.refusal.specs.declared.Answer.the-variants.{Accepted}
-use Rattle.refusal.proofs.CheckLaws.{leaves-done}
+use Rattle.refusal.proofs.CheckLaws.{leaves-done, inOrder-front}
+use Rattle.refusal.specs.Checks.{inOrder}
+use Rattle.elements.specs.Values.{valueChecks}
+use Rattle.layout.specs.Rules.{cubeChecks}
 use Rattle.layout.specs.declared.CubeLayout.{CubeLayout}
 use Rattle.layout.specs.declared.ElementBox.{ElementBox}
-use Rattle.layout.specs.Geometry.{sizeOf, elementPosition}
+use Rattle.layout.specs.Geometry.{sizeOf, elementPosition, elementCount}
 use Rattle.layout.specs.Boxes.{boxHas}
 use Rattle.layout.specs.Contents.{packed}
 use Rattle.layout.specs.Calls.{packAnswer, packBuffer}
@@ -37,9 +40,15 @@ module _ (q : CubeLayout) (raw : List ℤ) (before : List ℕ) where
         bytes = leaves-done (packed q raw before) before ok;
       }
 
+  room : packAnswer q raw (length before) ≡ Accepted → inOrder (cubeChecks q (elementCount q) (length before)) ≡ Accepted
+  unfolding packAnswer
+  room ok =
+      sym (ap (λ (n : ℕ). inOrder (cubeChecks q n (length before))) (pack-admitted q raw (length before) ok .count ∙ whole-count q))
+      ∙ inOrder-front (cubeChecks q (length raw) (length before)) (valueChecks (q .precision) raw) ok
+
   pub every-list : SixteenBit raw → packAnswer q raw (length before) ≡ Accepted → (calls : List Call) → LendsSixteenBit calls
       → program (started q raw before) calls ≡ map (shown q before) (model q (length before) (given raw) calls)
-  every-list sixteen ok calls lent = same-list q before (started q raw before) (given raw) (in-step sixteen ok) calls lent
+  every-list sixteen ok calls lent = same-list q before (room ok) (started q raw before) (given raw) (in-step sixteen ok) calls lent
 
   module _ (calls : List Call) where
     moment : State

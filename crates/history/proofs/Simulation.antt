@@ -3,15 +3,25 @@
 --     Agrees          program and model in step
 --     same-answer, same-elements, agrees-after     one call
 --     same-list       every list of calls
-use Prim.Native.Nat.{ℕ, zero, suc}
+use Prim.Native.Nat.{ℕ, zero, suc, _/_, _^_, _<_}
+use native.Mathlib.Omega.{arith}
+use mathlib.Core.Bool.{true}
+use borrow.Author.Tests.{le-leb}
+use lib.Signed.{mag}
+use Rattle.refusal.proofs.TestLaws.{and-both}
+use Rattle.refusal.proofs.CheckLaws.{inOrder-passed, leaves-done}
+use Rattle.elements.specs.Bytes.{elementBytes}
+use Rattle.elements.specs.Values.{valueTaken, valueChecks}
+use Rattle.layout.specs.Rules.{cubeChecks}
+use Rattle.layout.specs.Calls.{packAnswer, packBuffer}
 use mathlib.Core.Path.{_≡_, refl, sym, ap, _∙_}
 use mathlib.Core.List.{List, [], _∷_, map}
 use lib.ListN.{length, getD, set}
-use lib.IntN.{ℤ, pos}
+use lib.IntN.{ℤ, pos, negsuc}
 use Rattle.refusal.specs.declared.Answer.{Answer}
 use Rattle.refusal.specs.declared.Answer.the-variants.{Accepted, Refused}
 use Rattle.refusal.specs.Checks.{inOrder, leaves}
-use Rattle.elements.proofs.ValueLaws.{valueTaken-fits, valueChecks-taken}
+use Rattle.elements.proofs.ValueLaws.{valueTaken-fits, valueChecks-taken, valueChecks-all}
 use Rattle.layout.specs.declared.CubeLayout.{CubeLayout}
 use Rattle.layout.specs.declared.ElementBox.{ElementBox}
 use Rattle.layout.specs.Geometry.{elementCount}
@@ -48,6 +58,13 @@ module _ (t : RegionTable) (n : ℕ) (g : Rectangle) where
       go : (a : Answer) → map slotOf ((leaves a (record { layout = t .layout; slots = set (t .slots) n (placedRegion g) }) t) .slots) ≡ leaves a (set (map slotOf (t .slots)) n (filled g)) (map slotOf (t .slots))
       go Accepted = map-set slotOf (t .slots) n (placedRegion g)
       go (Refused r i) = refl
+
+-- an element that fits its bytes is taken
+fits-taken : (p : ℕ) (z : ℤ) → mag z < 256 ^ elementBytes p / 2 → valueTaken p z ≡ true
+unfolding elementBytes valueTaken
+fits-taken zero (pos n) h = le-leb n 127 (omega (arith, h))
+fits-taken zero (negsuc n) h = and-both (le-leb n 127 (omega (arith, h))) refl
+fits-taken (suc p) z h = refl
 
 -- ---- in step
 module _ (q : CubeLayout) (before : List ℕ) where
@@ -155,10 +172,22 @@ module _ (q : CubeLayout) (before : List ℕ) where
         }
     agrees-after (read n b xs) sixteen = a
 
-  pub same-list : (s : State) (m : Plain) → Agrees s m → (calls : List Call) → LendsSixteenBit calls → program s calls ≡ map (shown q before) (model q (length before) m calls)
+  -- packing the model's raw tensor is accepted at every moment
+  module _ (room : inOrder (cubeChecks q (elementCount q) (length before)) ≡ Accepted) where
+    still-packs : (s : State) (m : Plain) → Agrees s m → packAnswer q (m .raw) (length before) ≡ Accepted
+    unfolding packAnswer
+    still-packs s m a =
+        inOrder-passed (cubeChecks q (length (m .raw)) (length before)) (valueChecks (q .precision) (m .raw)) (ap (λ (n : ℕ). inOrder (cubeChecks q n (length before))) (a .count) ∙ room)
+        ∙ valueChecks-all (q .precision) (m .raw) (λ i h. fits-taken (q .precision) (getD (m .raw) i (pos 0)) (a .fits .fit i h))
+
+    pub packs : (s : State) (m : Plain) → Agrees s m → s .buffer ≡ packBuffer q (m .raw) before
+    unfolding packBuffer
+    packs s m a = a .bytes ∙ sym (leaves-done (packed q (m .raw) before) before (still-packs s m a))
+
+  pub same-list : inOrder (cubeChecks q (elementCount q) (length before)) ≡ Accepted → (s : State) (m : Plain) → Agrees s m → (calls : List Call) → LendsSixteenBit calls → program s calls ≡ map (shown q before) (model q (length before) m calls)
   unfolding program model LendsSixteenBit shown
-  same-list s m a [] sixteen = refl
-  same-list s m a (c ∷ calls) sixteen =
+  same-list room s m a [] sixteen = refl
+  same-list room s m a (c ∷ calls) sixteen =
       let next = agrees-after s m a c (sixteen .0) in
-      let tail = same-list (stateAfter s c) (plainAfter q (length before) m c) next calls (sixteen .1) in
-      λ i. record { answer = same-answer s m a c i; elements = same-elements s m a c i; buffer = next .bytes i } ∷ tail i
+      let tail = same-list room (stateAfter s c) (plainAfter q (length before) m c) next calls (sixteen .1) in
+      λ i. record { answer = same-answer s m a c i; elements = same-elements s m a c i; buffer = packs room (stateAfter s c) (plainAfter q (length before) m c) next i } ∷ tail i

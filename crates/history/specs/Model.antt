@@ -12,7 +12,7 @@ use Rattle.layout.specs.declared.CubeLayout.{CubeLayout}
 use Rattle.layout.specs.declared.ElementBox.{ElementBox}
 use Rattle.layout.specs.Geometry.{rawIndex}
 use Rattle.layout.specs.Boxes.{wholeBox, boxCount, boxHas, boxIndex, channelAt, rowAt, columnAt}
-use Rattle.layout.specs.Contents.{packed}
+use Rattle.layout.specs.Calls.{packBuffer}
 use Rattle.regions.specs.Slots.{Slot, filled, emptySlots}
 use Rattle.regions.specs.Rules.{placeChecks, readChecks, editChecks, rectangleAt, cubeBox}
 use Rattle.history.specs.Program.{Call, place, edit, read, Shown}
@@ -70,7 +70,7 @@ module _ (q : CubeLayout) (len : ℕ) where
 
 -- what the model gives, shown as the program shows it: the raw tensor packed over the bytes from before the packing
 unfoldable pub shown : CubeLayout → List ℕ → Given → Shown
-shown q before g = record { answer = g .answer; elements = g .elements; buffer = packed q (g .raw) before }
+shown q before g = record { answer = g .answer; elements = g .elements; buffer = packBuffer q (g .raw) before }
 
 -- the model when it has been given the packed raw tensor
 abbrev pub given : List ℤ → Plain

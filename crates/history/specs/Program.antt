@@ -76,3 +76,16 @@ program s (c ∷ calls) = record { answer = answerTo s c; elements = elementsAft
 -- the program's state when a raw tensor has been packed over `before`, with the empty table of the same layout
 abbrev pub started : CubeLayout → List ℤ → List ℕ → State
 started q raw before = record { table = emptyTable q; buffer = packBuffer q raw before }
+
+-- a state, and a call, made of their parts
+abbrev pub stateOf : RegionTable → List ℕ → State
+stateOf t b = record { table = t; buffer = b }
+
+abbrev pub placeCall : ℕ → Rectangle → Call
+placeCall n g = place n g
+
+abbrev pub editCall : ℕ → ElementBox → List ℤ → Call
+editCall n b xs = edit n b xs
+
+abbrev pub readCall : ℕ → ElementBox → List ℤ → Call
+readCall n b xs = read n b xs
