@@ -1,13 +1,19 @@
--- The theorem about every list of calls, and the laws behind it.
+-- The claims about every list of calls, and the laws behind them.
 --     Computed       one list, computed
---     TensorLaws     putting elements into a raw tensor is writing them into its packed buffer; taking them is reading
---     Simulation     program and model stay in step
---     Separation     placed regions share no byte, at every moment
+--     StepLaws       a step from its parts
+--     TensorLaws     writing elements into a raw tensor is writing them into its packed buffer; so is reading them
+--     Agreement      program and model in step over one call
+--     Simulation     program and model in step over every list
+--     Apart          placed regions share no byte, at every moment
+--     Separation     what an edit changes, and what it leaves to others
 --     Moments        from one call to every list
---     Theorem        the statements
+--     Claims         the statements
 pub mod Computed
+pub mod StepLaws
 pub mod TensorLaws
+pub mod Agreement
 pub mod Simulation
+pub mod Apart
 pub mod Separation
 pub mod Moments
-pub mod Theorem
+pub mod Claims

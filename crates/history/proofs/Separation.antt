@@ -1,135 +1,38 @@
--- At every moment of a list the placed regions are inside the cube and share no position. So they share no byte, and what an edit through one
--- writes is no byte of another. Assumes nothing.
---     Apart, apart-empty, apart-run     the placed regions of a table, at every moment
---     no-shared-byte                    two placed regions share no byte
---     edit-names                        an edit changes only bytes of the elements that it names
---     read-kept, elements-kept          a read through another region answers and gives the same before and after
-use Prim.Native.Nat.{ℕ, _+_, _≤_, _<_}
+-- What an edit changes, and that a read through another region is undisturbed by it: what an edit through one region writes is no byte of another.
+-- By cases on the two answers. Assumes nothing.
+--     call-changes                      a call changes only bytes of the elements that it names to be written
+--     answer-kept, elements-kept        a read through another region answers and gives the same before and after an edit
+use Prim.Native.Nat.{ℕ, _+_, _<_}
 use native.Mathlib.Omega.{arith}
-use native.Mathlib.Decide.{ℕ-discrete, decLt}
-use mathlib.Core.Path.{_≡_, refl, sym, ap, _∙_, subst}
-use mathlib.Core.Logic.{_≢_, _⊎_, inl, inr, ⊎-elim}
+use mathlib.Core.Path.{_≡_, refl, sym, ap, _∙_}
+use mathlib.Core.Logic.{_≢_}
 use mathlib.Core.Bool.{true, _&&_}
-use mathlib.Core.List.{List, [], _∷_}
-use lib.ListN.{length, getD, set, replicate, getD-replicate, length-replicate, List·getD-eq-default}
-use lib.Seq.{getD-set-same, getD-set-other, set-out}
+use mathlib.Core.List.{List}
+use lib.ListN.{length, getD}
 use lib.IntN.{ℤ}
 use Rattle.refusal.specs.declared.Answer.{Answer}
 use Rattle.refusal.specs.declared.Answer.the-variants.{Accepted, Refused}
+use Rattle.refusal.specs.declared.Refusal.{Refusal}
 use Rattle.refusal.specs.Checks.{inOrder, leaves}
+use Rattle.refusal.proofs.TestLaws.{and-left, and-right}
+use Rattle.refusal.proofs.CheckLaws.{leaves-before}
 use Rattle.layout.specs.declared.CubeLayout.{CubeLayout}
 use Rattle.layout.specs.declared.ElementBox.{ElementBox}
 use Rattle.layout.specs.Geometry.{sizeOf, elementPosition}
 use Rattle.layout.specs.Boxes.{spanInside}
-use Rattle.layout.specs.Contents.{edited, boxElements}
-use Rattle.refusal.proofs.TestLaws.{and-left, and-right}
-use Rattle.layout.proofs.Taken.{Taken}
-use Rattle.layout.proofs.BoxLaws.{Span, InBox, InCube, in-cube, span-inside}
+use Rattle.layout.specs.Contents.{edited}
+use Rattle.layout.proofs.BoxLaws.{Span, InBox, in-boxHas, boxHas-in, in-cube, span-inside}
 use Rattle.layout.proofs.ContentLaws.{edited-kept, edited-length}
-use Rattle.layout.proofs.Formulas.{element-own}
 use Rattle.regions.specs.declared.RegionTable.{RegionTable}
-use Rattle.regions.specs.Slots.{Rectangle, Slot, empty, filled, slotOf, slotsOf, emptySlots, rectangleInside}
-use Rattle.regions.specs.Rules.{slotAt, isFilled, rectangleOf, rectangleAt, boxInRectangle, cubeBox, placeChecks, editChecks, readChecks}
-use Rattle.regions.specs.Calls.{emptyTable, placeAnswer, placeTable, editAnswer, editBuffer, readAnswer, readElements}
-use Rattle.regions.proofs.RuleLaws.{Placing, place-accepted, area-inside, edit-area, read-area, rectangle-columns, rectangle-rows}
-use Rattle.regions.proofs.Depends.{box-same}
-use Rattle.regions.proofs.OverlapLaws.{InRectangle, overlaps-apart}
-use Rattle.history.specs.Program.{Call, place, edit, read, State, stateAfter, runTo}
-use Rattle.history.proofs.Simulation.{placed-layout, placed-slots}
-
--- the placed rectangles are in the cube, and no two have a position in common
-pub record Apart (q : CubeLayout) (slots : List Slot) : Type 0 where
-  pub inside : (n : ℕ) (g : Rectangle) → slotAt slots n ≡ filled g → rectangleInside q g ≡ true
-  pub apart : (n m : ℕ) → n ≢ m → (f g : Rectangle) → slotAt slots n ≡ filled f → slotAt slots m ≡ filled g → (w h : ℕ) → InRectangle f w h → InRectangle g w h → ⊥
-
--- ---- the empty table
-slot-empty : (n : ℕ) → slotAt emptySlots n ≡ empty
-unfolding slotAt emptySlots
-slot-empty n =
-    elim (decLt n 16) [ yes h ↦ getD-replicate 16 n empty empty h | no f ↦ List·getD-eq-default (replicate 16 empty) empty (subst (λ (k : ℕ). k ≤ n) (sym (length-replicate 16 empty)) (omega arith)) ]
-
-pub apart-empty : (q p : CubeLayout) → Apart q (slotsOf (emptyTable p))
-unfolding slotsOf slotOf emptySlots
-apart-empty q p =
-    record {
-      inside = λ n g e. absurd (let z : _≡_ {A = ℕ} 0 1 = cc (slot-empty n) in let f : ⊥ = omega arith in f);
-      apart = λ n m d f g e i w h a b. let z : _≡_ {A = ℕ} 0 1 = cc (slot-empty n) in omega arith;
-    }
-
--- ---- one placing: a filled slot is the new one, or was filled before
-set-cases : (slots : List Slot) (n k : ℕ) (g f : Rectangle) → slotAt (set slots n (filled g)) k ≡ filled f → ((k ≡ n) × (f ≡ g)) ⊎ (slotAt slots k ≡ filled f)
-unfolding slotAt
-set-cases slots n k g f e =
-    elim (ℕ-discrete k n) [ yes s ↦ at-it s | no d ↦ inr (sym (getD-set-other slots n k (filled g) empty d) ∙ e) ]
-  where
-    at-it : k ≡ n → ((k ≡ n) × (f ≡ g)) ⊎ (getD slots k empty ≡ filled f)
-    at-it s =
-        elim (decLt n (length slots)) [ yes h ↦ inl (s, (let i : filled g ≡ filled f = sym (getD-set-same slots n (filled g) empty h) ∙ sym (ap (λ (j : ℕ). getD (set slots n (filled g)) j empty) s) ∙ e in cc)) | no o ↦ inr (sym (ap (λ (l : List Slot). getD l k empty) (set-out slots n (filled g) (omega arith))) ∙ e) ]
-
-apart-placed : (q : CubeLayout) (slots : List Slot) (n : ℕ) (g : Rectangle) → Placing q slots n g → Apart q slots → Apart q (set slots n (filled g))
-apart-placed q slots n g p a =
-    record {
-      inside = λ k f e. ⊎-elim (λ s. subst (λ (r : Rectangle). rectangleInside q r ≡ true) (sym (s .1)) (p .inside)) (λ i. a .inside k f i) (set-cases slots n k g f e);
-      apart = λ k m d f r ef er w h hf hr. both k m d f r w h hf hr (set-cases slots n k g f ef) (set-cases slots n m g r er);
-    }
-  where
-    both : (k m : ℕ) → k ≢ m → (f r : Rectangle) (w h : ℕ) → InRectangle f w h → InRectangle r w h → ((k ≡ n) × (f ≡ g)) ⊎ (slotAt slots k ≡ filled f) → ((m ≡ n) × (r ≡ g)) ⊎ (slotAt slots m ≡ filled r) → ⊥
-    both k m d f r w h hf hr (inl s) (inl s′) = d (s .0 ∙ sym (s′ .0))
-    both k m d f r w h hf hr (inl s) (inr o) = overlaps-apart slots g (p .apart) m r w h o hr (subst (λ (x : Rectangle). InRectangle x w h) (s .1) hf)
-    both k m d f r w h hf hr (inr o) (inl s) = overlaps-apart slots g (p .apart) k f w h o hf (subst (λ (x : Rectangle). InRectangle x w h) (s .1) hr)
-    both k m d f r w h hf hr (inr o) (inr o′) = a .apart k m d f r o o′ w h hf hr
-
--- ---- every moment
-module _ (t : RegionTable) (n : ℕ) (g : Rectangle) where
-  place-cases : (v : Answer) → inOrder (placeChecks (t .layout) (slotsOf t) n g) ≡ v → Apart (t .layout) (slotsOf t) → Apart (t .layout) (leaves v (set (slotsOf t) n (filled g)) (slotsOf t))
-  unfolding leaves
-  place-cases Accepted e a = apart-placed (t .layout) (slotsOf t) n g (place-accepted (t .layout) (slotsOf t) n g e) a
-  place-cases (Refused r i) e a = a
-
-  apart-place : Apart (t .layout) (slotsOf t) → Apart (placeTable t n g .layout) (slotsOf (placeTable t n g))
-  unfolding placeAnswer
-  apart-place a =
-      subst (λ (p : CubeLayout). Apart p (slotsOf (placeTable t n g))) (sym (placed-layout t n g))
-      (subst (λ (l : List Slot). Apart (t .layout) l) (sym (placed-slots t n g)) (place-cases (placeAnswer t n g) refl a))
-
-apart-after : (s : State) (c : Call) → Apart (s .table .layout) (slotsOf (s .table)) → Apart (stateAfter s c .table .layout) (slotsOf (stateAfter s c .table))
-unfolding stateAfter
-apart-after s (place n g) a = apart-place (s .table) n g a
-apart-after s (edit n b xs) a = a
-apart-after s (read n b xs) a = a
-
-pub apart-run : (s : State) (calls : List Call) → Apart (s .table .layout) (slotsOf (s .table)) → Apart (runTo s calls .table .layout) (slotsOf (runTo s calls .table))
-unfolding runTo
-apart-run s [] a = a
-apart-run s (c ∷ calls) a = apart-run (stateAfter s c) calls (apart-after s c a)
-
--- the layout stays
-layout-after : (s : State) (c : Call) → stateAfter s c .table .layout ≡ s .table .layout
-unfolding stateAfter
-layout-after s (place n g) = placed-layout (s .table) n g
-layout-after s (edit n b xs) = refl
-layout-after s (read n b xs) = refl
-
-pub layout-run : (s : State) (calls : List Call) → runTo s calls .table .layout ≡ s .table .layout
-unfolding runTo
-layout-run s [] = refl
-layout-run s (c ∷ calls) = layout-run (stateAfter s c) calls ∙ layout-after s c
-
--- ---- no shared byte
-module _ (q : CubeLayout) (ok : Taken q) (slots : List Slot) (a : Apart q slots) where
-  -- an element of a placed region is in the cube
-  region-cube : (n : ℕ) (g : Rectangle) → slotAt slots n ≡ filled g → (c h w : ℕ) → c < q .channels → InRectangle g w h → InCube q c h w
-  region-cube n g e c h w hc i =
-      let cs = rectangle-columns q g (a .inside n g e) in
-      let rs = rectangle-rows q g (a .inside n g e) in
-      record { channel-lt = hc; row-lt = omega (arith, i .row-lt, rs .fit); column-lt = omega (arith, i .column-lt, cs .fit) }
-
-  pub no-shared-byte : (n m : ℕ) → n ≢ m → (f g : Rectangle) → slotAt slots n ≡ filled f → slotAt slots m ≡ filled g
-      → (c h w b c′ h′ w′ b′ : ℕ) → c < q .channels → InRectangle f w h → b < sizeOf q → c′ < q .channels → InRectangle g w′ h′ → b′ < sizeOf q
-      → elementPosition q c h w + b ≡ elementPosition q c′ h′ w′ + b′ → ⊥
-  no-shared-byte n m d f g ef eg c h w b c′ h′ w′ b′ hc i hb hc′ i′ hb′ e =
-      let same = element-own q ok c h w b c′ h′ w′ b′ (region-cube n f ef c h w hc i) (region-cube m g eg c′ h′ w′ hc′ i′) hb hb′ e in
-      a .apart n m d f g ef eg w h i (subst (λ (x : ℕ). InRectangle g x h) (sym (same .2)) (subst (λ (x : ℕ). InRectangle g w′ x) (sym (same .1)) i′))
+use Rattle.regions.specs.Slots.{Rectangle, Slot, empty, filled, slotsOf}
+use Rattle.regions.specs.Rules.{slotAt, isFilled, rectangleOf, rectangleAt, boxInRectangle, cubeBox, editChecks}
+use Rattle.regions.specs.Calls.{editAnswer, editBuffer, readAnswer, readElements}
+use Rattle.regions.specs.Reads.{SameRead}
+use Rattle.regions.proofs.RuleLaws.{area-inside, edit-area, read-area}
+use Rattle.regions.proofs.ReadLaws.{same-elements}
+use Rattle.regions.proofs.OverlapLaws.{InRectangle}
+use Rattle.history.specs.Program.{Call, place, edit, read, State, step, writesElement}
+use Rattle.history.proofs.Apart.{Apart, no-shared-byte}
 
 -- ---- what an edit changes
 module _ (t : RegionTable) (n : ℕ) (b : ElementBox) (xs : List ℤ) (buf : List ℕ) where
@@ -147,6 +50,10 @@ module _ (t : RegionTable) (n : ℕ) (b : ElementBox) (xs : List ℤ) (buf : Lis
   unfolding editBuffer editAnswer
   edit-names p f = edit-cases (editAnswer t n b xs (length buf)) refl p f
 
+  pub edit-refused : {r : Refusal} {i : ℕ} → editAnswer t n b xs (length buf) ≡ Refused r i → editBuffer t n b xs buf ≡ buf
+  unfolding editBuffer
+  edit-refused e = leaves-before _ buf e
+
   edit-long : (v : Answer) → length (leaves v (edited (t .layout) (cubeBox (rectangleAt (slotsOf t) n) b) xs buf) buf) ≡ length buf
   unfolding leaves
   edit-long Accepted = edited-length (t .layout) (cubeBox (rectangleAt (slotsOf t) n) b) xs buf
@@ -155,6 +62,15 @@ module _ (t : RegionTable) (n : ℕ) (b : ElementBox) (xs : List ℤ) (buf : Lis
   pub edit-length : length (editBuffer t n b xs buf) ≡ length buf
   unfolding editBuffer
   edit-length = edit-long (editAnswer t n b xs (length buf))
+
+pub call-changes : (s : State) (call : Call) (p : ℕ)
+    → ((c h w k : ℕ) → writesElement (slotsOf (s .table)) call c h w ≡ true → k < sizeOf (s .table .layout) → p ≡ elementPosition (s .table .layout) c h w + k → ⊥)
+    → getD (step s call .state .buffer) p 0 ≡ getD (s .buffer) p 0
+unfolding step writesElement
+call-changes s (place n g) p f = refl
+call-changes s (edit n b xs) p f =
+    edit-names (s .table) n b xs (s .buffer) p (λ c h w k i. f c h w k (in-boxHas (cubeBox (rectangleAt (slotsOf (s .table)) n) b) c h w i))
+call-changes s (read n b xs) p f = refl
 
 -- ---- a read through another region
 module _ (q : CubeLayout) (g : Rectangle) (b : ElementBox) (e : boxInRectangle q g b ≡ true) where
@@ -188,20 +104,20 @@ is-filled empty e = let z : _≡_ {A = ℕ} 0 1 = cc in absurd (let f : ⊥ = om
 is-filled (filled g) e = refl
 
 module _ (t : RegionTable) (a : Apart (t .layout) (slotsOf t)) (n m : ℕ) (d : n ≢ m) (b : ElementBox) (xs : List ℤ) (b′ : ElementBox) (ys : List ℤ) (buf : List ℕ) where
-  pub read-kept : readAnswer t m b′ (length ys) (length (editBuffer t n b xs buf)) ≡ readAnswer t m b′ (length ys) (length buf)
-  read-kept = ap (λ (k : ℕ). readAnswer t m b′ (length ys) k) (edit-length t n b xs buf)
+  pub answer-kept : readAnswer t m b′ (length ys) (length (editBuffer t n b xs buf)) ≡ readAnswer t m b′ (length ys) (length buf)
+  answer-kept = ap (λ (k : ℕ). readAnswer t m b′ (length ys) k) (edit-length t n b xs buf)
 
-  -- an element of the read's box keeps its bytes
-  bytes-kept : inOrder (readChecks (t .layout) (slotsOf t) m b′ (length ys) (length buf)) ≡ Accepted → (v : Answer) → editAnswer t n b xs (length buf) ≡ v
+  -- an element of an accepted read's box keeps its bytes
+  bytes-kept : readAnswer t m b′ (length ys) (length buf) ≡ Accepted → (v : Answer) → editAnswer t n b xs (length buf) ≡ v
       → (c h w k : ℕ) → InBox (cubeBox (rectangleAt (slotsOf t) m) b′) c h w → k < sizeOf (t .layout)
-      → getD (leaves v (edited (t .layout) (cubeBox (rectangleAt (slotsOf t) n) b) xs buf) buf) (elementPosition (t .layout) c h w + k) 0 ≡ getD buf (elementPosition (t .layout) c h w + k) 0
-  unfolding leaves editAnswer
+      → getD (editBuffer t n b xs buf) (elementPosition (t .layout) c h w + k) 0 ≡ getD buf (elementPosition (t .layout) c h w + k) 0
+  unfolding editAnswer readAnswer
   bytes-kept r Accepted e c h w k i hk =
       let q = t .layout in
       let slots = slotsOf t in
       let mine = area-inside q slots m b′ (read-area q slots m b′ (length ys) (length buf) r) in
       let theirs = area-inside q slots n b (edit-area q slots n b xs (length buf) e) in
-      edited-kept q (cubeBox (rectangleAt slots n) b) xs buf (mine .layout) (elementPosition q c h w + k)
+      edit-names t n b xs buf (elementPosition q c h w + k)
       (λ c′ h′ w′ k′ i′ hk′ s.
       no-shared-byte q (mine .layout) slots a m n (λ z. d (sym z)) (rectangleAt slots m) (rectangleAt slots n) (is-filled (slotAt slots m) (mine .placed)) (is-filled (slotAt slots n) (theirs .placed)) c h w k c′ h′ w′ k′
       (in-cube q (cubeBox (rectangleAt slots m) b′) c h w (mine .area) i .channel-lt)
@@ -211,21 +127,22 @@ module _ (t : RegionTable) (a : Apart (t .layout) (slotsOf t)) (n m : ℕ) (d : 
       (in-rectangle q (rectangleAt slots n) b (theirs .within) c′ h′ w′ i′)
       hk′
       s)
-  bytes-kept r (Refused x j) e c h w k i hk = refl
+  bytes-kept r (Refused x j) e c h w k i hk = ap (λ (l : List ℕ). getD l (elementPosition (t .layout) c h w + k) 0) (edit-refused t n b xs buf e)
 
-  elements-cases : (v : Answer) → inOrder (readChecks (t .layout) (slotsOf t) m b′ (length ys) (length buf)) ≡ v
-      → leaves v (boxElements (t .layout) (cubeBox (rectangleAt (slotsOf t) m) b′) (editBuffer t n b xs buf)) ys ≡ leaves v (boxElements (t .layout) (cubeBox (rectangleAt (slotsOf t) m) b′) buf) ys
-  unfolding leaves editBuffer
-  elements-cases Accepted r =
-      let q = t .layout in
-      let box = cubeBox (rectangleAt (slotsOf t) m) b′ in
-      let mine = area-inside q (slotsOf t) m b′ (read-area q (slotsOf t) m b′ (length ys) (length buf) r) in
-      box-same q box (editBuffer t n b xs buf) buf (λ c h w k i hk. bytes-kept r (editAnswer t n b xs (length buf)) refl c h w k i hk) (mine .area)
-  elements-cases (Refused x j) r = refl
+  same-read : readAnswer t m b′ (length ys) (length buf) ≡ Accepted → SameRead m b′ t t buf (editBuffer t n b xs buf) ys ys
+  same-read r =
+      record {
+        layout = refl;
+        slot = refl;
+        buffers = sym (edit-length t n b xs buf);
+        lent = refl;
+        bytes = λ c h w k i hk. sym (bytes-kept r (editAnswer t n b xs (length buf)) refl c h w k (boxHas-in (cubeBox (rectangleAt (slotsOf t) m) b′) c h w i) hk);
+      }
 
   pub elements-kept : readElements t m b′ (editBuffer t n b xs buf) ys ≡ readElements t m b′ buf ys
-  unfolding readElements readAnswer
-  elements-kept =
-      let v = readAnswer t m b′ (length ys) (length buf) in
-      ap (λ (w : Answer). leaves w (boxElements (t .layout) (cubeBox (rectangleAt (slotsOf t) m) b′) (editBuffer t n b xs buf)) ys) read-kept
-      ∙ elements-cases v refl
+  unfolding readElements
+  elements-kept = go (readAnswer t m b′ (length ys) (length buf)) refl
+    where
+      go : (v : Answer) → readAnswer t m b′ (length ys) (length buf) ≡ v → readElements t m b′ (editBuffer t n b xs buf) ys ≡ readElements t m b′ buf ys
+      go Accepted r = sym (same-elements m b′ t t buf (editBuffer t n b xs buf) ys ys (same-read r) r)
+      go (Refused x i) r = leaves-before _ ys (answer-kept ∙ r) ∙ sym (leaves-before _ ys r)

@@ -1,9 +1,9 @@
--- The raw tensor and its packed buffer say the same: putting elements at a box and packing is packing and writing the box, and the box's elements
+-- The raw tensor and its packed buffer say the same: writing elements at a box and packing is packing and writing the box, and the box's elements
 -- are the raw tensor's. By cases on a byte's owner, and index by index. Assumes nothing.
---     put-length, put-at     the raw tensor after elements were put at a box
---     packed-put             the commuting law
---     Fitting, put-fitting   every element fits its bytes
---     packed-take            what a box of the packed buffer reads
+--     boxWritten-length, boxWritten-at     the raw tensor after elements were written at a box
+--     packed-boxWritten                    the commuting law
+--     Fits, boxWritten-fits                every element fits its bytes
+--     packed-boxRead                       what a box of the packed buffer reads
 use Prim.Native.Nat.{ℕ, _+_, _/_, _^_, _≤_, _<_}
 use mathlib.Core.Path.{_≡_, refl, sym, ap, _∙_, subst}
 use mathlib.Core.Bool.{Bool, true, false, cond}
@@ -26,7 +26,7 @@ use Rattle.layout.proofs.Views.{View, is-element, is-padding, is-outside, see}
 use Rattle.layout.proofs.BoxLaws.{BoxTaken, InCube, in-cube, boxHas-in, boxIndex-lt, index-channel, index-row, index-column, at-in, whole-count, whole-index, whole-in}
 use Rattle.layout.proofs.ContentLaws.{packed-length, packed-at, edited-length, edited-at}
 use Rattle.layout.proofs.RoundTrip.{stored-raw}
-use Rattle.history.specs.Model.{putBox, takeBox}
+use Rattle.history.specs.Model.{boxWritten, boxRead}
 
 -- an element of the cube is one of the raw tensor's
 raw-index-lt : (q : CubeLayout) (c h w : ℕ) → InCube q c h w → rawIndex q c h w < elementCount q
@@ -35,7 +35,7 @@ raw-index-lt q c h w i =
     (subst (λ (n : ℕ). boxIndex (wholeBox q) c h w < n) (whole-count q) (boxIndex-lt (wholeBox q) c h w (whole-in q c h w (i .channel-lt) (i .row-lt) (i .column-lt))))
 
 module _ (q : CubeLayout) (box : ElementBox) (xs raw : List ℤ) where
-  -- what is put at raw index i
+  -- what is written at raw index i
   new : ℕ → ℤ → ℤ
   new i old =
       let c = channelAt (wholeBox q) i in
@@ -43,25 +43,25 @@ module _ (q : CubeLayout) (box : ElementBox) (xs raw : List ℤ) where
       let w = columnAt (wholeBox q) i in
       cond (boxHas box c h w) (getD xs (boxIndex box c h w) (pos 0)) old
 
-  pub put-length : length (putBox q box xs raw) ≡ length raw
-  unfolding putBox new
-  put-length = length-remade new raw
+  pub boxWritten-length : length (boxWritten q box xs raw) ≡ length raw
+  unfolding boxWritten new
+  boxWritten-length = length-remade new raw
 
-  put-entry : (i : ℕ) → i < length raw → getD (putBox q box xs raw) i (pos 0) ≡ new i (getD raw i (pos 0))
-  unfolding putBox new
-  put-entry i hi = getD-remade new raw i (pos 0) hi
+  boxWritten-entry : (i : ℕ) → i < length raw → getD (boxWritten q box xs raw) i (pos 0) ≡ new i (getD raw i (pos 0))
+  unfolding boxWritten new
+  boxWritten-entry i hi = getD-remade new raw i (pos 0) hi
 
   module _ (long : length raw ≡ elementCount q) where
-    pub put-at : (c h w : ℕ) → InCube q c h w
-        → getD (putBox q box xs raw) (rawIndex q c h w) (pos 0) ≡ cond (boxHas box c h w) (getD xs (boxIndex box c h w) (pos 0)) (getD raw (rawIndex q c h w) (pos 0))
+    pub boxWritten-at : (c h w : ℕ) → InCube q c h w
+        → getD (boxWritten q box xs raw) (rawIndex q c h w) (pos 0) ≡ cond (boxHas box c h w) (getD xs (boxIndex box c h w) (pos 0)) (getD raw (rawIndex q c h w) (pos 0))
     unfolding new
-    put-at c h w i =
+    boxWritten-at c h w i =
         let b = wholeBox q in
         let inb = whole-in q c h w (i .channel-lt) (i .row-lt) (i .column-lt) in
         let j = boxIndex b c h w in
         let old = getD raw (rawIndex q c h w) (pos 0) in
         let hi : rawIndex q c h w < length raw = subst (λ (n : ℕ). rawIndex q c h w < n) (sym long) (raw-index-lt q c h w i) in
-        put-entry (rawIndex q c h w) hi
+        boxWritten-entry (rawIndex q c h w) hi
         ∙ ap (λ (k : ℕ). new k old) (sym (whole-index q c h w))
         ∙ ap (λ (x : ℕ). cond (boxHas box x (rowAt b j) (columnAt b j)) (getD xs (boxIndex box x (rowAt b j) (columnAt b j)) (pos 0)) old) (index-channel b c h w inb)
         ∙ ap (λ (x : ℕ). cond (boxHas box c x (columnAt b j)) (getD xs (boxIndex box c x (columnAt b j)) (pos 0)) old) (index-row b c h w inb)
@@ -72,41 +72,41 @@ module _ (q : CubeLayout) (box : ElementBox) (xs raw : List ℤ) where
       byte-of true a b k = refl
       byte-of false a b k = refl
 
-      put-view : (p old : ℕ) {o : Owner} → View q p o → packedByte q (putBox q box xs raw) o old ≡ editedByte box xs o (packedByte q raw o old)
+      written-view : (p old : ℕ) {o : Owner} → View q p o → packedByte q (boxWritten q box xs raw) o old ≡ editedByte box xs o (packedByte q raw o old)
       unfolding packedByte editedByte
-      put-view p old (is-element c h w b hc hh hw hb i) =
-          ap (λ (z : ℤ). byteOf z b) (put-at c h w (record { channel-lt = hc; row-lt = hh; column-lt = hw }))
+      written-view p old (is-element c h w b hc hh hw hb i) =
+          ap (λ (z : ℤ). byteOf z b) (boxWritten-at c h w (record { channel-lt = hc; row-lt = hh; column-lt = hw }))
           ∙ byte-of (boxHas box c h w) (getD xs (boxIndex box c h w) (pos 0)) (getD raw (rawIndex q c h w) (pos 0)) b
-      put-view p old (is-padding s h w k hs hh hw hk past i) = refl
-      put-view p old (is-outside none) = refl
+      written-view p old (is-padding s h w k hs hh hw hk past i) = refl
+      written-view p old (is-outside none) = refl
 
-      pub packed-put : packed q (putBox q box xs raw) before ≡ edited q box xs (packed q raw before)
-      packed-put =
-          let after = putBox q box xs raw in
+      pub packed-boxWritten : packed q (boxWritten q box xs raw) before ≡ edited q box xs (packed q raw before)
+      packed-boxWritten =
+          let after = boxWritten q box xs raw in
           let buf = packed q raw before in
           ext-getD 0 (packed q after before) (edited q box xs buf) (packed-length q after before ∙ sym (packed-length q raw before) ∙ sym (edited-length q box xs buf))
           (λ p h.
           let hp : p < length before = subst (λ (n : ℕ). p < n) (packed-length q after before) h in
           let hb : p < length buf = subst (λ (n : ℕ). p < n) (sym (packed-length q raw before)) hp in
           packed-at q after before p hp
-          ∙ put-view p (getD before p 0) (see q ok p)
+          ∙ written-view p (getD before p 0) (see q ok p)
           ∙ ap (λ (n : ℕ). editedByte box xs (owner q p) n) (sym (packed-at q raw before p hp))
           ∙ sym (edited-at q box xs buf p hb))
 
 -- every element fits its bytes
-pub record Fitting (q : CubeLayout) (raw : List ℤ) : Type 0 where
+pub record Fits (q : CubeLayout) (raw : List ℤ) : Type 0 where
   pub fit : (i : ℕ) → i < length raw → mag (getD raw i (pos 0)) < 256 ^ sizeOf q / 2
 
-pub put-fitting : (q : CubeLayout) (box : ElementBox) (xs raw : List ℤ) → length xs ≡ boxCount box → Fitting q xs → Fitting q raw → Fitting q (putBox q box xs raw)
+pub boxWritten-fits : (q : CubeLayout) (box : ElementBox) (xs raw : List ℤ) → length xs ≡ boxCount box → Fits q xs → Fits q raw → Fits q (boxWritten q box xs raw)
 unfolding new
-put-fitting q box xs raw count fx fr =
+boxWritten-fits q box xs raw count fx fr =
     record {
       fit = λ i h.
-          let hi : i < length raw = subst (λ (n : ℕ). i < n) (put-length q box xs raw) h in
+          let hi : i < length raw = subst (λ (n : ℕ). i < n) (boxWritten-length q box xs raw) h in
           let c = channelAt (wholeBox q) i in
           let y = rowAt (wholeBox q) i in
           let w = columnAt (wholeBox q) i in
-          subst (λ (z : ℤ). mag z < 256 ^ sizeOf q / 2) (sym (put-entry q box xs raw i hi)) (go c y w i hi (boxHas box c y w) refl);
+          subst (λ (z : ℤ). mag z < 256 ^ sizeOf q / 2) (sym (boxWritten-entry q box xs raw i hi)) (go c y w i hi (boxHas box c y w) refl);
     }
   where
     go : (c y w i : ℕ) → i < length raw → (t : Bool) → boxHas box c y w ≡ t → mag (cond t (getD xs (boxIndex box c y w) (pos 0)) (getD raw i (pos 0))) < 256 ^ sizeOf q / 2
@@ -114,10 +114,10 @@ put-fitting q box xs raw count fx fr =
     go c y w i hi false e = fr .fit i hi
 
 -- what a box of the packed buffer reads
-pub packed-take : (q : CubeLayout) → Taken q → (box : ElementBox) → BoxTaken q box → (raw : List ℤ) (before : List ℕ) → length raw ≡ elementCount q → Fitting q raw
-    → q .start + cubeExtent q ≤ length before → boxElements q box (packed q raw before) ≡ takeBox q box raw
-unfolding boxElements takeBox
-packed-take q ok box area raw before long fits room =
+pub packed-boxRead : (q : CubeLayout) → Taken q → (box : ElementBox) → BoxTaken q box → (raw : List ℤ) (before : List ℕ) → length raw ≡ elementCount q → Fits q raw
+    → q .start + cubeExtent q ≤ length before → boxElements q box (packed q raw before) ≡ boxRead q box raw
+unfolding boxElements boxRead
+packed-boxRead q ok box area raw before long fits room =
     let f : ℕ → ℤ = λ (i : ℕ). storedElement q (packed q raw before) (channelAt box i) (rowAt box i) (columnAt box i) in
     let g : ℕ → ℤ = λ (i : ℕ). getD raw (rawIndex q (channelAt box i) (rowAt box i) (columnAt box i)) (pos 0) in
     tabulate-ext (pos 0) (boxCount box) f g

@@ -7,7 +7,7 @@ use lib.IntN.{ℤ, pos, negsuc}
 use Rattle.layout.specs.declared.CubeLayout.{CubeLayout}
 use Rattle.layout.specs.declared.ElementBox.{ElementBox}
 use Rattle.regions.specs.Slots.{rectangle}
-use Rattle.history.specs.Program.{Call, place, edit, read, Shown, program, started}
+use Rattle.history.specs.Program.{Call, place, edit, read, Shown, beginning, program}
 
 abbrev pub layout : CubeLayout
 layout = record { width = 3; height = 1; channels = 2; precision = 0; line = 96; surface = 96; start = 0 }
@@ -40,6 +40,8 @@ calls =
     ∷ place 1 (rectangle 2 0 1 1)
     -- through region 0: channel 1, column 1 becomes -8
     ∷ edit 0 (box 1 0 1 1 1 1) (negsuc 7 ∷ [])
+    -- through region 1: its first column is the cube's column 2, of channel 0 it becomes 9
+    ∷ edit 1 (box 0 0 0 1 1 1) (pos 9 ∷ [])
     -- refused: no such region, out of the region, one element too few, 200 is no int8
     ∷ edit 2 (box 0 0 0 1 1 1) (pos 9 ∷ [])
     ∷ edit 1 (box 0 0 1 1 1 1) (pos 9 ∷ [])
@@ -56,4 +58,4 @@ calls =
 
 -- what the program shows of them
 abbrev pub shownOf : List Shown
-shownOf = program (started layout tensor buffer) calls
+shownOf = program (beginning layout tensor buffer .state) calls

@@ -15,11 +15,11 @@ use Rattle.layout.specs.Boxes.{wholeBox, boxCount, boxHas, boxIndex, channelAt,
 use Rattle.layout.specs.Calls.{packBuffer}
 use Rattle.regions.specs.Slots.{Slot, filled, emptySlots}
 use Rattle.regions.specs.Rules.{placeChecks, readChecks, editChecks, rectangleAt, cubeBox}
-use Rattle.history.specs.Program.{Call, place, edit, read, Shown}
+use Rattle.history.specs.Program.{Call, place, edit, read, none, Reply, Shown}
 
--- the raw tensor with elements put at a box, in raw order over the box
-unfoldable pub putBox : CubeLayout → ElementBox → List ℤ → List ℤ → List ℤ
-putBox q box elements raw =
+-- the raw tensor with elements written at a box, in raw order over the box
+unfoldable pub boxWritten : CubeLayout → ElementBox → List ℤ → List ℤ → List ℤ
+boxWritten q box elements raw =
     remade
     (λ (i : ℕ) (old : ℤ).
     let c = channelAt (wholeBox q) i in
@@ -29,19 +29,23 @@ putBox q box elements raw =
     raw
 
 -- the raw tensor's elements at a box, in raw order over the box
-unfoldable pub takeBox : CubeLayout → ElementBox → List ℤ → List ℤ
-takeBox q box raw = tabulate (boxCount box) (λ (i : ℕ). getD raw (rawIndex q (channelAt box i) (rowAt box i) (columnAt box i)) (pos 0))
+unfoldable pub boxRead : CubeLayout → ElementBox → List ℤ → List ℤ
+boxRead q box raw = tabulate (boxCount box) (λ (i : ℕ). getD raw (rawIndex q (channelAt box i) (rowAt box i) (columnAt box i)) (pos 0))
 
 -- what the model keeps
 pub record Plain : Type 0 where
   pub raw : List ℤ
   pub slots : List Slot
 
--- what a call gives: its answer, the caller's elements and the raw tensor after it
-pub record Given : Type 0 where
-  pub answer : Answer
+-- what a call gives: its reply, the caller's elements and the model after it
+pub record PlainStep : Type 0 where
+  pub reply : Reply
   pub elements : List ℤ
-  pub raw : List ℤ
+  pub state : Plain
+
+-- the step of a call that gives no value
+abbrev pub plainStepOf : Answer → List ℤ → List ℤ → List Slot → PlainStep
+plainStepOf answer elements raw slots = record { reply = record { answer = answer; value = none }; elements = elements; state = record { raw = raw; slots = slots } }
 
 module _ (q : CubeLayout) (len : ℕ) where
   -- the answer to a call, by its order of checks
@@ -50,27 +54,25 @@ module _ (q : CubeLayout) (len : ℕ) where
   plainAnswer s (edit n b xs) = inOrder (editChecks q (s .slots) n b xs len)
   plainAnswer s (read n b xs) = inOrder (readChecks q (s .slots) n b (length xs) len)
 
-  -- the caller's elements after a call
-  unfoldable pub plainElements : Plain → Call → List ℤ
-  plainElements s (place n g) = []
-  plainElements s (edit n b xs) = xs
-  plainElements s (read n b xs) = leaves (plainAnswer s (read n b xs)) (takeBox q (cubeBox (rectangleAt (s .slots) n) b) (s .raw)) xs
-
-  -- raw tensor and slots after a call
-  unfoldable pub plainAfter : Plain → Call → Plain
-  plainAfter s (place n g) = record { raw = s .raw; slots = leaves (plainAnswer s (place n g)) (set (s .slots) n (filled g)) (s .slots) }
-  plainAfter s (edit n b xs) =
-      record { raw = leaves (plainAnswer s (edit n b xs)) (putBox q (cubeBox (rectangleAt (s .slots) n) b) xs (s .raw)) (s .raw); slots = s .slots }
-  plainAfter s (read n b xs) = s
+  -- one call: refused, it changes nothing
+  unfoldable pub plainStep : Plain → Call → PlainStep
+  plainStep s (place n g) = let a = plainAnswer s (place n g) in plainStepOf a [] (s .raw) (leaves a (set (s .slots) n (filled g)) (s .slots))
+  plainStep s (edit n b xs) = let a = plainAnswer s (edit n b xs) in plainStepOf a xs (leaves a (boxWritten q (cubeBox (rectangleAt (s .slots) n) b) xs (s .raw)) (s .raw)) (s .slots)
+  plainStep s (read n b xs) = let a = plainAnswer s (read n b xs) in plainStepOf a (leaves a (boxRead q (cubeBox (rectangleAt (s .slots) n) b) (s .raw)) xs) (s .raw) (s .slots)
 
   -- what the model gives after each call of a list
-  unfoldable pub model : Plain → List Call → List Given
+  unfoldable pub model : Plain → List Call → List PlainStep
   model s [] = []
-  model s (c ∷ calls) = record { answer = plainAnswer s c; elements = plainElements s c; raw = plainAfter s c .raw } ∷ model (plainAfter s c) calls
+  model s (c ∷ calls) = plainStep s c ∷ model (plainStep s c .state) calls
 
--- what the model gives, shown as the program shows it: the raw tensor packed over the bytes from before the packing
-unfoldable pub shown : CubeLayout → List ℕ → Given → Shown
-shown q before g = record { answer = g .answer; elements = g .elements; buffer = packBuffer q (g .raw) before }
+  -- the model after a list of calls
+  unfoldable pub modelTo : Plain → List Call → Plain
+  modelTo s [] = s
+  modelTo s (c ∷ calls) = modelTo (plainStep s c .state) calls
+
+-- what the model gives, shown as the program shows it: its raw tensor packed over the bytes from before the packing
+unfoldable pub shown : CubeLayout → List ℕ → PlainStep → Shown
+shown q before g = record { reply = g .reply; elements = g .elements; buffer = packBuffer q (g .state .raw) before }
 
 -- the model when it has been given the packed raw tensor
 abbrev pub given : List ℤ → Plain

@@ -1,6 +1,7 @@
--- A list of calls, and what the program shows after each: the very definitions that the contracts of `place`, `edit` and `read` cite, folded over
--- the list (scope paper, "The plain picture"). Assumes nothing.
+-- A list of calls, and what the program does at each: the promises of `begin`, `place`, `edit` and `read` cite these steps, and the fold goes from one
+-- to the next (scope paper, "The plain picture"). Assumes nothing.
 use Prim.Native.Nat.{ℕ, _<_}
+use mathlib.Core.Bool.{Bool, false}
 use mathlib.Core.List.{List, [], _∷_}
 use lib.ListN.{length, getD}
 use lib.IntN.{ℤ, pos}
@@ -8,9 +9,11 @@ use lib.Signed.{mag}
 use Rattle.refusal.specs.declared.Answer.{Answer}
 use Rattle.layout.specs.declared.CubeLayout.{CubeLayout}
 use Rattle.layout.specs.declared.ElementBox.{ElementBox}
-use Rattle.layout.specs.Calls.{packBuffer}
+use Rattle.layout.specs.Boxes.{boxHas}
+use Rattle.layout.specs.Calls.{packAnswer, packBuffer}
 use Rattle.regions.specs.declared.RegionTable.{RegionTable}
-use Rattle.regions.specs.Slots.{Rectangle}
+use Rattle.regions.specs.Slots.{Rectangle, Slot, slotsOf}
+use Rattle.regions.specs.Rules.{rectangleAt, cubeBox}
 use Rattle.regions.specs.Calls.{emptyTable, placeAnswer, placeTable, editAnswer, editBuffer, readAnswer, readElements}
 
 -- a call with its arguments, save the table and the buffer; the elements are those that the caller lends
@@ -34,58 +37,71 @@ unfoldable pub LendsSixteenBit : List Call → Type 0
 LendsSixteenBit [] = Unit {0}
 LendsSixteenBit (c ∷ calls) = SixteenBit (lends c) × LendsSixteenBit calls
 
+-- what a call gives beside its answer; these calls give no value
+pub data Value : Type 0 where
+  none : Value
+
+pub record Reply : Type 0 where
+  pub answer : Answer
+  pub value : Value
+
 -- what the program keeps between calls
 pub record State : Type 0 where
   pub table : RegionTable
   pub buffer : List ℕ
 
--- what a call shows: its answer, the caller's elements after it, the buffer after it
-pub record Shown : Type 0 where
-  pub answer : Answer
+abbrev pub stateOf : RegionTable → List ℕ → State
+stateOf table buffer = record { table = table; buffer = buffer }
+
+-- what a call does: its reply, the caller's elements after it, the state after it
+pub record Step : Type 0 where
+  pub reply : Reply
   pub elements : List ℤ
-  pub buffer : List ℕ
+  pub state : State
 
--- the answer to a call
-unfoldable pub answerTo : State → Call → Answer
-answerTo s (place n g) = placeAnswer (s .table) n g
-answerTo s (edit n b xs) = editAnswer (s .table) n b xs (length (s .buffer))
-answerTo s (read n b xs) = readAnswer (s .table) n b (length xs) (length (s .buffer))
+-- the step of a call that gives no value
+abbrev pub stepOf : Answer → List ℤ → RegionTable → List ℕ → Step
+stepOf answer elements table buffer = record { reply = record { answer = answer; value = none }; elements = elements; state = stateOf table buffer }
 
--- the caller's elements after a call; placing lends none
-unfoldable pub elementsAfter : State → Call → List ℤ
-elementsAfter s (place n g) = []
-elementsAfter s (edit n b xs) = xs
-elementsAfter s (read n b xs) = readElements (s .table) n b (s .buffer) xs
+-- a raw tensor is packed over `before`, and the table is the empty one of the same layout
+abbrev pub beginning : CubeLayout → List ℤ → List ℕ → Step
+beginning q raw before = stepOf (packAnswer q raw (length before)) raw (emptyTable q) (packBuffer q raw before)
 
--- table and buffer after a call
-unfoldable pub stateAfter : State → Call → State
-stateAfter s (place n g) = record { table = placeTable (s .table) n g; buffer = s .buffer }
-stateAfter s (edit n b xs) = record { table = s .table; buffer = editBuffer (s .table) n b xs (s .buffer) }
-stateAfter s (read n b xs) = s
+-- one call; placing lends no elements
+unfoldable pub step : State → Call → Step
+step s (place n g) = stepOf (placeAnswer (s .table) n g) [] (placeTable (s .table) n g) (s .buffer)
+step s (edit n b xs) = stepOf (editAnswer (s .table) n b xs (length (s .buffer))) xs (s .table) (editBuffer (s .table) n b xs (s .buffer))
+step s (read n b xs) = stepOf (readAnswer (s .table) n b (length xs) (length (s .buffer))) (readElements (s .table) n b (s .buffer) xs) (s .table) (s .buffer)
 
 -- the program's state after a list of calls
 unfoldable pub runTo : State → List Call → State
 runTo s [] = s
-runTo s (c ∷ calls) = runTo (stateAfter s c) calls
+runTo s (c ∷ calls) = runTo (step s c .state) calls
+
+-- what a call shows: its reply, the caller's elements and the buffer after it
+pub record Shown : Type 0 where
+  pub reply : Reply
+  pub elements : List ℤ
+  pub buffer : List ℕ
+
+abbrev pub shows : Step → Shown
+shows t = record { reply = t .reply; elements = t .elements; buffer = t .state .buffer }
 
 -- what the program shows after each call of a list
 unfoldable pub program : State → List Call → List Shown
 program s [] = []
-program s (c ∷ calls) = record { answer = answerTo s c; elements = elementsAfter s c; buffer = stateAfter s c .buffer } ∷ program (stateAfter s c) calls
+program s (c ∷ calls) = shows (step s c) ∷ program (step s c .state) calls
 
--- the program's state when a raw tensor has been packed over `before`, with the empty table of the same layout
-abbrev pub started : CubeLayout → List ℤ → List ℕ → State
-started q raw before = record { table = emptyTable q; buffer = packBuffer q raw before }
+-- a moment: the state after a packing and a list of calls
+abbrev pub moment : CubeLayout → List ℤ → List ℕ → List Call → State
+moment q raw before calls = runTo (beginning q raw before .state) calls
 
--- a state, and a call, made of their parts
-abbrev pub stateOf : RegionTable → List ℕ → State
-stateOf t b = record { table = t; buffer = b }
+-- the slots at a moment
+abbrev pub slotsAt : CubeLayout → List ℤ → List ℕ → List Call → List Slot
+slotsAt q raw before calls = slotsOf (moment q raw before calls .table)
 
-abbrev pub placeCall : ℕ → Rectangle → Call
-placeCall n g = place n g
-
-abbrev pub editCall : ℕ → ElementBox → List ℤ → Call
-editCall n b xs = edit n b xs
-
-abbrev pub readCall : ℕ → ElementBox → List ℤ → Call
-readCall n b xs = read n b xs
+-- a call names element (c, h, w) to be written: an edit those of its box, a placing and a read none
+unfoldable pub writesElement : List Slot → Call → ℕ → ℕ → ℕ → Bool
+writesElement slots (place n g) c h w = false
+writesElement slots (edit n b xs) c h w = boxHas (cubeBox (rectangleAt slots n) b) c h w
+writesElement slots (read n b xs) c h w = false

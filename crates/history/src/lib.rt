@@ -1,10 +1,9 @@
-// One call of a list, and its beginning: the calls of `cube` and `regions` themselves, whose promises are restated as one step of the fold of
-// specs/Program.antt. So the theorem about lists is about these functions (scope paper, "The plain picture").
+// The beginning of a list of calls, and one call of it: the calls of `cube` and `regions` themselves, whose promises are here the fold's steps
+// (specs/Program.antt). So the theorem about lists (proofs/Claims.antt) is about these calls (scope paper, "The plain picture").
 ghost use mathlib.Core.Path.{_≡_};
+ghost use mathlib.Core.List.{[]};
 ghost use Rattle.regions.specs.Slots.{rectangle};
-ghost use lib.ListN.{length};
-ghost use Rattle.layout.specs.Calls.{packAnswer};
-ghost use Rattle.history.specs.Program.{stateOf, started, placeCall, editCall, readCall, answerTo, elementsAfter, stateAfter};
+ghost use Rattle.history.specs.Program.{stateOf, stepOf, beginning, step, Call};
 use layout::CubeLayout;
 use layout::ElementBox;
 use regions::Outcome;
@@ -12,8 +11,7 @@ use regions::RegionTable;
 
 // Packs a raw tensor and takes the empty table of its layout.
 pub fn begin(layout: CubeLayout, elements: &[i16], buffer: &mut [u8]) -> Outcome
-    ensures answered { λ r. ⌜ r .answer ≡ packAnswer layout (now (elements .entry)) (length (now (buffer .entry))) ⌝ }
-    ensures left { λ r. ⌜ stateOf (r .table) (now (buffer .exit)) ≡ started layout (now (elements .entry)) (now (buffer .entry)) ⌝ }
+    ensures { λ r. ⌜ stepOf (r .answer) (now (elements .entry)) (r .table) (now (buffer .exit)) ≡ beginning layout (now (elements .entry)) (now (buffer .entry)) ⌝ }
 {
     let answer = cube::pack(layout, elements, buffer);
     let table = regions::empty(layout);
@@ -23,7 +21,8 @@ pub fn begin(layout: CubeLayout, elements: &[i16], buffer: &mut [u8]) -> Outcome
     }
 }
 
-pub fn place_step(
+// Places a region.
+pub fn place(
     table: RegionTable,
     slot: u32,
     column: u32,
@@ -32,35 +31,33 @@ pub fn place_step(
     rows: u32,
     buffer: &mut [u8],
 ) -> Outcome
-    ensures answered { λ r. ⌜ r .answer ≡ answerTo (stateOf table (now (buffer .entry))) (placeCall slot (rectangle column row columns rows)) ⌝ }
-    ensures left { λ r. ⌜ stateOf (r .table) (now (buffer .exit)) ≡ stateAfter (stateOf table (now (buffer .entry))) (placeCall slot (rectangle column row columns rows)) ⌝ }
+    ensures { λ r. ⌜ stepOf (r .answer) [] (r .table) (now (buffer .exit)) ≡ step (stateOf table (now (buffer .entry))) (Call.place slot (rectangle column row columns rows)) ⌝ }
 {
     regions::place(table, slot, column, row, columns, rows)
 }
 
-pub fn edit_step(
+// Writes a box of a region.
+pub fn edit(
     table: RegionTable,
     slot: u32,
     area: ElementBox,
     elements: &[i16],
     buffer: &mut [u8],
 ) -> Outcome
-    ensures answered { λ r. ⌜ r .answer ≡ answerTo (stateOf table (now (buffer .entry))) (editCall slot area (now (elements .entry))) ⌝ }
-    ensures left { λ r. ⌜ stateOf (r .table) (now (buffer .exit)) ≡ stateAfter (stateOf table (now (buffer .entry))) (editCall slot area (now (elements .entry))) ⌝ }
+    ensures { λ r. ⌜ stepOf (r .answer) (now (elements .entry)) (r .table) (now (buffer .exit)) ≡ step (stateOf table (now (buffer .entry))) (Call.edit slot area (now (elements .entry))) ⌝ }
 {
     regions::edit(table, slot, area, elements, buffer)
 }
 
-pub fn read_step(
+// Reads a box of a region.
+pub fn read(
     table: RegionTable,
     slot: u32,
     area: ElementBox,
     elements: &mut [i16],
     buffer: &mut [u8],
 ) -> Outcome
-    ensures answered { λ r. ⌜ r .answer ≡ answerTo (stateOf table (now (buffer .entry))) (readCall slot area (now (elements .entry))) ⌝ }
-    ensures filled { λ r. ⌜ now (elements .exit) ≡ elementsAfter (stateOf table (now (buffer .entry))) (readCall slot area (now (elements .entry))) ⌝ }
-    ensures left { λ r. ⌜ stateOf (r .table) (now (buffer .exit)) ≡ stateAfter (stateOf table (now (buffer .entry))) (readCall slot area (now (elements .entry))) ⌝ }
+    ensures { λ r. ⌜ stepOf (r .answer) (now (elements .exit)) (r .table) (now (buffer .exit)) ≡ step (stateOf table (now (buffer .entry))) (Call.read slot area (now (elements .entry))) ⌝ }
 {
     regions::read(table, slot, area, buffer, elements)
 }

@@ -2,12 +2,12 @@
 --     Computed      regions of the paper's frame and the orders, computed
 --     RuleLaws      the orders of checks: what an accepted placing, edit or read tells
 --     OverlapLaws   a placing overlaps exactly if some position is in a rectangle already placed; the code's test is that
---     Depends       what a read depends on
+--     ReadLaws      what a read depends on
 --     StepLaws      slots, rectangles and checks as the code goes through them
 --     CallLaws      the calls in terms of what they call
 pub mod Computed
 pub mod RuleLaws
 pub mod OverlapLaws
-pub mod Depends
+pub mod ReadLaws
 pub mod StepLaws
 pub mod CallLaws

@@ -2,3 +2,4 @@ pub mod Slots
 pub mod Rules
 pub mod Calls
 pub mod Steps
+pub mod Reads

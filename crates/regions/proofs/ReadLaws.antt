@@ -1,11 +1,9 @@
--- What a read depends on (scope paper, "Stalls"): the layout, the named slot, the box, the two lengths and the bytes of the box's elements. Two
--- reads that agree on these answer the same and, accepted, give the same elements. Element by element. Assumes nothing.
+-- What a read depends on: two reads that agree on it answer the same and, accepted, give the same elements. Element by element. Assumes nothing.
 --     box-same                        the elements of a box depend on their bytes alone
---     SameRead                        two reads agree
---     same-answer, same-elements      they answer the same, and give the same elements
+--     same-answer, same-elements      two reads that agree
 use Prim.Native.Nat.{ℕ, _+_, _<_}
 use mathlib.Core.Path.{_≡_, refl, sym, ap, _∙_}
-use mathlib.Core.Bool.{_&&_}
+use mathlib.Core.Bool.{true, _&&_}
 use mathlib.Core.List.{List, [], _∷_, _++_}
 use lib.ListN.{length, getD}
 use lib.Dec.{ltb}
@@ -20,21 +18,22 @@ use Rattle.elements.proofs.TabulateLaws.{tabulate-ext}
 use Rattle.layout.specs.declared.CubeLayout.{CubeLayout}
 use Rattle.layout.specs.declared.ElementBox.{ElementBox}
 use Rattle.layout.specs.Geometry.{sizeOf, elementPosition}
-use Rattle.layout.specs.Boxes.{boxCount, channelAt, rowAt, columnAt}
+use Rattle.layout.specs.Boxes.{boxCount, boxHas, channelAt, rowAt, columnAt}
 use Rattle.layout.specs.Rules.{layoutChecks, storageChecks}
 use Rattle.layout.specs.Contents.{storedElement, boxElements}
-use Rattle.layout.proofs.BoxLaws.{BoxTaken, InBox, at-in}
+use Rattle.layout.proofs.BoxLaws.{BoxTaken, at-in, in-boxHas}
 use Rattle.regions.specs.declared.RegionTable.{RegionTable}
 use Rattle.regions.specs.Slots.{Slot, slotsOf, rectangleInside}
 use Rattle.regions.specs.Rules.{slotAt, isFilled, rectangleOf, rectangleAt, boxInRectangle, cubeBox, areaChecks, readChecks}
 use Rattle.regions.specs.Calls.{readAnswer, readElements}
+use Rattle.regions.specs.Reads.{SameRead}
 use Rattle.regions.proofs.RuleLaws.{area-inside, read-area}
 
 -- ---- the elements of a box, from its elements' bytes alone
 
 module _ (q : CubeLayout) (box : ElementBox) (buffer buffer′ : List ℕ)
-    (bytes : (c h w k : ℕ) → InBox box c h w → k < sizeOf q → getD buffer (elementPosition q c h w + k) 0 ≡ getD buffer′ (elementPosition q c h w + k) 0) where
-  stored-same : (c h w : ℕ) → InBox box c h w → storedElement q buffer c h w ≡ storedElement q buffer′ c h w
+    (bytes : (c h w k : ℕ) → boxHas box c h w ≡ true → k < sizeOf q → getD buffer (elementPosition q c h w + k) 0 ≡ getD buffer′ (elementPosition q c h w + k) 0) where
+  stored-same : (c h w : ℕ) → boxHas box c h w ≡ true → storedElement q buffer c h w ≡ storedElement q buffer′ c h w
   unfolding storedElement
   stored-same c h w i = elementAt-ext (sizeOf q) buffer buffer′ (elementPosition q c h w) (elementPosition q c h w) (λ k l. bytes c h w k i l)
 
@@ -44,7 +43,7 @@ module _ (q : CubeLayout) (box : ElementBox) (buffer buffer′ : List ℕ)
       tabulate-ext (pos 0) (boxCount box)
       (λ (i : ℕ). storedElement q buffer (channelAt box i) (rowAt box i) (columnAt box i))
       (λ (i : ℕ). storedElement q buffer′ (channelAt box i) (rowAt box i) (columnAt box i))
-      (λ i l. stored-same (channelAt box i) (rowAt box i) (columnAt box i) (at-in box i l (t .rows .some) (t .columns .some)))
+      (λ i l. stored-same (channelAt box i) (rowAt box i) (columnAt box i) (in-boxHas box (channelAt box i) (rowAt box i) (columnAt box i) (at-in box i l (t .rows .some) (t .columns .some))))
 
 -- ---- the checks look at the named slot alone
 
@@ -59,15 +58,6 @@ unfolding readChecks areaChecks checksOf
 by-slot q slots n b given len = refl
 
 -- ---- two reads
-
--- two tables, buffers and lent elements agree on what a read of a box through a slot depends on
-pub record SameRead (n : ℕ) (b : ElementBox) (t t′ : RegionTable) (buffer buffer′ : List ℕ) (xs xs′ : List ℤ) : Type 0 where
-  pub layout : t .layout ≡ t′ .layout
-  pub slot : slotAt (slotsOf t) n ≡ slotAt (slotsOf t′) n
-  pub buffers : length buffer ≡ length buffer′
-  pub lent : length xs ≡ length xs′
-  pub bytes : (c h w k : ℕ) → InBox (cubeBox (rectangleAt (slotsOf t) n) b) c h w → k < sizeOf (t .layout)
-      → getD buffer (elementPosition (t .layout) c h w + k) 0 ≡ getD buffer′ (elementPosition (t .layout) c h w + k) 0
 
 module _ (n : ℕ) (b : ElementBox) (t t′ : RegionTable) (buffer buffer′ : List ℕ) (xs xs′ : List ℤ) (same : SameRead n b t t′ buffer buffer′ xs xs′) where
   pub same-answer : readAnswer t n b (length xs) (length buffer) ≡ readAnswer t′ n b (length xs′) (length buffer′)

@@ -1,0 +1,67 @@
+-- The claims about every list of calls (scope paper, "The plain picture"; demand 3). `program` folds the steps that `begin`, `place`, `edit` and `read` of
+-- this crate promise, and these do nothing but call `pack`, `empty`, `place`, `edit` and `read`; `model` has no buffer and no table of the program.
+-- Premises: packing was accepted; lent elements are 16-bit numbers, as in every slice of i16. Assumes nothing.
+use Prim.Native.Nat.{ℕ, _+_, _<_}
+use mathlib.Core.Path.{_≡_}
+use mathlib.Core.Logic.{_≢_}
+use mathlib.Core.Bool.{true}
+use mathlib.Core.List.{List, map}
+use lib.ListN.{length, getD}
+use lib.IntN.{ℤ}
+use Rattle.refusal.specs.declared.Answer.the-variants.{Accepted}
+use Rattle.layout.specs.declared.CubeLayout.{CubeLayout}
+use Rattle.layout.specs.declared.ElementBox.{ElementBox}
+use Rattle.layout.specs.Geometry.{sizeOf, elementPosition}
+use Rattle.layout.specs.Calls.{packAnswer}
+use Rattle.regions.specs.declared.RegionTable.{RegionTable}
+use Rattle.regions.specs.Slots.{Rectangle, filled, rectangleHas}
+use Rattle.regions.specs.Rules.{slotAt}
+use Rattle.regions.specs.Calls.{readAnswer, readElements}
+use Rattle.regions.specs.Reads.{SameRead}
+use Rattle.regions.proofs.ReadLaws as reads
+use Rattle.history.specs.Program.{Call, edit, read, SixteenBit, LendsSixteenBit, beginning, step, program, moment, slotsAt, writesElement}
+use Rattle.history.specs.Model.{model, modelTo, shown, given}
+use Rattle.history.proofs.Simulation as simulation
+use Rattle.history.proofs.Moments as moments
+
+module _ (q : CubeLayout) (raw : List ℤ) (before : List ℕ) (accepted : packAnswer q raw (length before) ≡ Accepted) where
+  module _ (sixteen : SixteenBit raw) (calls : List Call) (lent : LendsSixteenBit calls) where
+    -- after every call of every list: the reply, the caller's elements and the buffer are the model's, its raw tensor packed over the bytes from before
+    -- the packing
+    pub every-list : program (beginning q raw before .state) calls ≡ map (shown q before) (model q (length before) (given raw) calls)
+    every-list = simulation.every-list q raw before accepted sixteen calls lent
+
+    -- at every moment packing the model's raw tensor is accepted
+    pub still-packs : packAnswer q (modelTo q (length before) (given raw) calls .raw) (length before) ≡ Accepted
+    still-packs = simulation.packs-at q raw before accepted sixteen calls lent
+
+    -- at every moment the slots are the model's
+    pub slots-are : slotsAt q raw before calls ≡ modelTo q (length before) (given raw) calls .slots
+    slots-are = simulation.agrees-at q raw before accepted sixteen calls lent .slots
+
+  -- at every moment no two placed regions share a byte: element (c, h, w) has the bytes from its position on
+  pub regions-apart : (calls : List Call) (n m : ℕ) → n ≢ m → (f g : Rectangle)
+      → slotAt (slotsAt q raw before calls) n ≡ filled f → slotAt (slotsAt q raw before calls) m ≡ filled g
+      → (c h w k c′ h′ w′ k′ : ℕ) → c < q .channels → rectangleHas f w h ≡ true → k < sizeOf q → c′ < q .channels → rectangleHas g w′ h′ ≡ true → k′ < sizeOf q
+      → elementPosition q c h w + k ≡ elementPosition q c′ h′ w′ + k′ → ⊥
+  regions-apart calls = moments.regions-apart q raw before calls accepted
+
+module _ (q : CubeLayout) (raw : List ℤ) (before : List ℕ) (calls : List Call) where
+  -- at every moment a call changes only bytes of the elements that it names to be written: an edit those of its box, a placing and a read none
+  pub edit-changes : (call : Call) (p : ℕ)
+      → ((c h w k : ℕ) → writesElement (slotsAt q raw before calls) call c h w ≡ true → k < sizeOf q → p ≡ elementPosition q c h w + k → ⊥)
+      → getD (step (moment q raw before calls) call .state .buffer) p 0 ≡ getD (moment q raw before calls .buffer) p 0
+  edit-changes = moments.edit-changes q raw before calls
+
+  -- at every moment, whatever an edit through one region writes, a read through another replies and gives the same just before it and just after
+  pub read-undisturbed : (n m : ℕ) → n ≢ m → (b : ElementBox) (xs : List ℤ) (b′ : ElementBox) (ys : List ℤ)
+      → (step (step (moment q raw before calls) (edit n b xs) .state) (read m b′ ys) .reply ≡ step (moment q raw before calls) (read m b′ ys) .reply)
+      × (step (step (moment q raw before calls) (edit n b xs) .state) (read m b′ ys) .elements ≡ step (moment q raw before calls) (read m b′ ys) .elements)
+  read-undisturbed n m d b xs b′ ys =
+      (moments.reply-undisturbed q raw before calls n m d b xs b′ ys, moments.elements-undisturbed q raw before calls n m d b xs b′ ys)
+
+-- what a read depends on: two reads of any two tables that agree on it answer the same and, accepted, give the same elements
+pub read-depends : (n : ℕ) (b : ElementBox) (t t′ : RegionTable) (buffer buffer′ : List ℕ) (xs xs′ : List ℤ) → SameRead n b t t′ buffer buffer′ xs xs′
+    → (readAnswer t n b (length xs) (length buffer) ≡ readAnswer t′ n b (length xs′) (length buffer′))
+    × (readAnswer t n b (length xs) (length buffer) ≡ Accepted → readElements t n b buffer xs ≡ readElements t′ n b buffer′ xs′)
+read-depends n b t t′ buffer buffer′ xs xs′ same = (reads.same-answer n b t t′ buffer buffer′ xs xs′ same, reads.same-elements n b t t′ buffer buffer′ xs xs′ same)
