@@ -18,11 +18,12 @@ use Rattle.layout.specs.declared.ElementBox.{ElementBox}
 use Rattle.layout.specs.Geometry.{elementCount}
 use Rattle.layout.specs.Contents.{packed, edited, boxElements}
 use Rattle.layout.proofs.ContentLaws.{packed-length}
+use Rattle.regions.specs.declared.Rectangle.{Rectangle}
 use Rattle.regions.specs.declared.RegionTable.{RegionTable}
-use Rattle.regions.specs.Slots.{Rectangle, filled, slotOf, slotsOf}
+use Rattle.regions.specs.Slots.{filled, slotOf, slotsOf}
 use Rattle.regions.specs.Rules.{placeChecks, readChecks, editChecks, rectangleAt, cubeBox}
 use Rattle.regions.specs.Calls.{placedRegion, placeAnswer, placeTable, editAnswer, editBuffer, readAnswer, readElements}
-use Rattle.regions.proofs.RuleLaws.{edit-admitted, edit-values, read-admitted}
+use Rattle.regions.proofs.RuleLaws.{read-accepted, edit-accepted}
 use Rattle.history.specs.Program.{Call, place, edit, read, none, Reply, lends, SixteenBit, State, step}
 use Rattle.history.specs.Model.{boxWritten, boxRead, Plain, plainAnswer, plainStep}
 use Rattle.history.proofs.TensorLaws.{boxWritten-length, packed-boxWritten, Fits, boxWritten-fits, packed-boxRead}
@@ -87,7 +88,7 @@ module _ (q : CubeLayout) (before : List ℕ) where
         → leaves v (boxElements q (cubeBox (rectangleAt (m .slots) n) b) (packed q (m .raw) before)) xs ≡ leaves v (boxRead q (cubeBox (rectangleAt (m .slots) n) b) (m .raw)) xs
     unfolding leaves
     read-cases n b xs Accepted e =
-        let d = read-admitted q (m .slots) n b (length xs) (length before) e in
+        let d = read-accepted q (m .slots) n b (length xs) (length before) e .admitted in
         packed-boxRead q (d .layout) (cubeBox (rectangleAt (m .slots) n) b) (d .area) (m .raw) before (a .count) (a .fits) (d .room)
     read-cases n b xs (Refused r i) e = refl
 
@@ -110,7 +111,7 @@ module _ (q : CubeLayout) (before : List ℕ) where
           → leaves v (edited q (cubeBox (rectangleAt (m .slots) n) b) xs (packed q (m .raw) before)) (packed q (m .raw) before) ≡ packed q (raw-after v) before
       unfolding leaves
       edit-bytes Accepted e =
-          let d = edit-admitted q (m .slots) n b xs (length before) e in
+          let d = edit-accepted q (m .slots) n b xs (length before) e .admitted in
           sym (packed-boxWritten q (cubeBox (rectangleAt (m .slots) n) b) xs (m .raw) (a .count) (d .layout) before)
       edit-bytes (Refused r i) e = refl
 
@@ -123,13 +124,13 @@ module _ (q : CubeLayout) (before : List ℕ) where
       xs-fit e =
           record {
             fit = λ i h.
-                valueTaken-fits (q .precision) (getD xs i (pos 0)) (valueChecks-taken (q .precision) xs (edit-values q (m .slots) n b xs (length before) e) i h) (sixteen .each i);
+                valueTaken-fits (q .precision) (getD xs i (pos 0)) (valueChecks-taken (q .precision) xs (edit-accepted q (m .slots) n b xs (length before) e .values) i h) (sixteen .each i);
           }
 
       edit-fits : (v : Answer) → answer ≡ v → Fits q (raw-after v)
       unfolding leaves
       edit-fits Accepted e =
-          let d = edit-admitted q (m .slots) n b xs (length before) e in
+          let d = edit-accepted q (m .slots) n b xs (length before) e .admitted in
           boxWritten-fits q (cubeBox (rectangleAt (m .slots) n) b) xs (m .raw) (d .count) (xs-fit e) (a .fits)
       edit-fits (Refused r i) e = a .fits
 

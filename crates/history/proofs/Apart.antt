@@ -20,8 +20,9 @@ use Rattle.layout.specs.Geometry.{sizeOf, elementPosition}
 use Rattle.layout.proofs.Taken.{Taken}
 use Rattle.layout.proofs.BoxLaws.{InCube}
 use Rattle.layout.proofs.Places.{element-own}
+use Rattle.regions.specs.declared.Rectangle.{Rectangle}
 use Rattle.regions.specs.declared.RegionTable.{RegionTable}
-use Rattle.regions.specs.Slots.{Rectangle, Slot, empty, filled, slotOf, slotsOf, emptySlots, rectangleInside}
+use Rattle.regions.specs.Slots.{Slot, empty, filled, slotOf, slotsOf, emptySlots, rectangleInside}
 use Rattle.regions.specs.Rules.{slotAt, placeChecks}
 use Rattle.regions.specs.Calls.{emptyTable, placeAnswer, placeTable}
 use Rattle.regions.proofs.RuleLaws.{Placing, place-accepted, rectangle-columns, rectangle-rows}

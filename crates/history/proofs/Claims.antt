@@ -13,8 +13,9 @@ use Rattle.layout.specs.declared.CubeLayout.{CubeLayout}
 use Rattle.layout.specs.declared.ElementBox.{ElementBox}
 use Rattle.layout.specs.Geometry.{sizeOf, elementPosition}
 use Rattle.layout.specs.Calls.{packAnswer}
+use Rattle.regions.specs.declared.Rectangle.{Rectangle}
 use Rattle.regions.specs.declared.RegionTable.{RegionTable}
-use Rattle.regions.specs.Slots.{Rectangle, filled, rectangleHas}
+use Rattle.regions.specs.Slots.{filled, rectangleHas}
 use Rattle.regions.specs.Rules.{slotAt}
 use Rattle.regions.specs.Calls.{readAnswer, readElements}
 use Rattle.regions.specs.Reads.{SameRead}

@@ -18,8 +18,8 @@ use Rattle.layout.specs.Rules.{sizesTaken, wholeAtoms, stridesTaken, layoutChec
 use Rattle.layout.specs.Owners.{surfaceOf, rowOf, columnOf, byteInAtom, inAtom, atomOwner, owner}
 use Rattle.layout.specs.Contents.{packedByte, packed, editedByte, edited, storedElement, boxElements}
 use Rattle.layout.specs.Calls.{packAnswer, packBuffer}
-use Rattle.regions.specs.Slots.{slotOf, slotsOf, emptySlots, rectangleHas, taken, anyFrom, overlaps, rectangleInside}
-use Rattle.regions.specs.Rules.{slotAt, isFilled, rectangleOf, placeChecks, boxInRectangle, areaChecks, readChecks, editChecks}
+use Rattle.regions.specs.Slots.{slotOf, slotsOf, emptySlots, rectangleHas, occupied, anyFrom, overlaps, rectangleInside}
+use Rattle.regions.specs.Rules.{slotAt, isFilled, rectangleOf, placeChecks, boxInRectangle, slotChecks, regionBoxChecks, readChecks, editChecks}
 use Rattle.regions.specs.Calls.{placeAnswer, placeTable, editAnswer, editBuffer, readAnswer, readElements}
 use Rattle.history.specs.Program.{none, Shown, step, program}
 use Rattle.history.specs.Model.{PlainStep, boxWritten, boxRead, plainAnswer, plainStep, model, given}
@@ -54,10 +54,10 @@ pub record Pictured : Type 0 where
   pub read-1 : nthPlain 13 .elements ≡ pos 9 ∷ negsuc 5 ∷ []
 
 pub computed : Computed
-unfolding requireAt inOrder leaves elementBytes byteOf wordAt signed elementAt remadeFrom remade tabulateFrom tabulate valueTaken valueCheck valueChecksFrom valueChecks elementCount rawIndex surfaces elementPosition cubeExtent boxCount spanInside spanHas boxHas boxIndex channelAt rowAt columnAt sizeTaken sizesTaken wholeAtoms stridesTaken layoutChecks storageChecks cubeChecks surfaceOf rowOf columnOf byteInAtom inAtom atomOwner owner packedByte packed editedByte edited storedElement boxElements packAnswer packBuffer slotOf slotsOf rectangleHas taken anyFrom overlaps rectangleInside slotAt isFilled rectangleOf placeChecks boxInRectangle areaChecks readChecks editChecks placeAnswer placeTable editAnswer editBuffer readAnswer readElements step program calls
+unfolding requireAt inOrder leaves elementBytes byteOf wordAt signed elementAt remadeFrom remade tabulateFrom tabulate valueTaken valueCheck valueChecksFrom valueChecks elementCount rawIndex surfaces elementPosition cubeExtent boxCount spanInside spanHas boxHas boxIndex channelAt rowAt columnAt sizeTaken sizesTaken wholeAtoms stridesTaken layoutChecks storageChecks cubeChecks surfaceOf rowOf columnOf byteInAtom inAtom atomOwner owner packedByte packed editedByte edited storedElement boxElements packAnswer packBuffer slotOf slotsOf rectangleHas occupied anyFrom overlaps rectangleInside slotAt isFilled rectangleOf placeChecks boxInRectangle slotChecks regionBoxChecks readChecks editChecks placeAnswer placeTable editAnswer editBuffer readAnswer readElements step program calls
 computed =
     record { packing = refl; answers = refl; fault-index = refl; read-0 = refl; read-1 = refl; byte-33 = refl; byte-64 = refl }
 
 pub pictured : Pictured
-unfolding requireAt inOrder leaves elementBytes byteOf wordAt signed elementAt remadeFrom remade tabulateFrom tabulate valueTaken valueCheck valueChecksFrom valueChecks elementCount rawIndex surfaces elementPosition cubeExtent boxCount spanInside spanHas boxHas boxIndex channelAt rowAt columnAt sizeTaken sizesTaken wholeAtoms stridesTaken layoutChecks storageChecks cubeChecks surfaceOf rowOf columnOf byteInAtom inAtom atomOwner owner packedByte packed editedByte edited storedElement boxElements packAnswer packBuffer slotOf slotsOf rectangleHas taken anyFrom overlaps rectangleInside slotAt isFilled rectangleOf placeChecks boxInRectangle areaChecks readChecks editChecks placeAnswer placeTable editAnswer editBuffer readAnswer readElements emptySlots boxWritten boxRead plainAnswer plainStep model calls
+unfolding requireAt inOrder leaves elementBytes byteOf wordAt signed elementAt remadeFrom remade tabulateFrom tabulate valueTaken valueCheck valueChecksFrom valueChecks elementCount rawIndex surfaces elementPosition cubeExtent boxCount spanInside spanHas boxHas boxIndex channelAt rowAt columnAt sizeTaken sizesTaken wholeAtoms stridesTaken layoutChecks storageChecks cubeChecks surfaceOf rowOf columnOf byteInAtom inAtom atomOwner owner packedByte packed editedByte edited storedElement boxElements packAnswer packBuffer slotOf slotsOf rectangleHas occupied anyFrom overlaps rectangleInside slotAt isFilled rectangleOf placeChecks boxInRectangle slotChecks regionBoxChecks readChecks editChecks placeAnswer placeTable editAnswer editBuffer readAnswer readElements emptySlots boxWritten boxRead plainAnswer plainStep model calls
 pictured = record { answers = refl; edited-0 = refl; edited-1 = refl; refused = refl; read-1 = refl }

@@ -13,7 +13,8 @@ use Rattle.layout.specs.declared.ElementBox.{ElementBox}
 use Rattle.layout.specs.Geometry.{sizeOf, elementPosition}
 use Rattle.layout.specs.Calls.{packAnswer}
 use Rattle.layout.proofs.CallLaws.{pack-admitted}
-use Rattle.regions.specs.Slots.{Rectangle, filled, slotsOf, rectangleHas}
+use Rattle.regions.specs.declared.Rectangle.{Rectangle}
+use Rattle.regions.specs.Slots.{filled, slotsOf, rectangleHas}
 use Rattle.regions.specs.Rules.{slotAt}
 use Rattle.regions.proofs.OverlapLaws.{has-in}
 use Rattle.history.specs.Program.{Call, edit, read, none, beginning, step, moment, slotsAt, writesElement}

@@ -6,7 +6,7 @@ use Prim.Native.Nat.{ℕ, _+_, _<_}
 use native.Mathlib.Omega.{arith}
 use mathlib.Core.Path.{_≡_, refl, sym, ap, _∙_}
 use mathlib.Core.Logic.{_≢_}
-use mathlib.Core.Bool.{true, _&&_}
+use mathlib.Core.Bool.{true}
 use mathlib.Core.List.{List}
 use lib.ListN.{length, getD}
 use lib.IntN.{ℤ}
@@ -14,21 +14,19 @@ use Rattle.refusal.specs.declared.Answer.{Answer}
 use Rattle.refusal.specs.declared.Answer.the-variants.{Accepted, Refused}
 use Rattle.refusal.specs.declared.Refusal.{Refusal}
 use Rattle.refusal.specs.Checks.{inOrder, leaves}
-use Rattle.refusal.proofs.TestLaws.{and-left, and-right}
 use Rattle.refusal.proofs.CheckLaws.{leaves-before}
 use Rattle.layout.specs.declared.CubeLayout.{CubeLayout}
 use Rattle.layout.specs.declared.ElementBox.{ElementBox}
 use Rattle.layout.specs.Geometry.{sizeOf, elementPosition}
-use Rattle.layout.specs.Boxes.{spanInside}
 use Rattle.layout.specs.Contents.{edited}
-use Rattle.layout.proofs.BoxLaws.{Span, InBox, in-boxHas, boxHas-in, in-cube, span-inside}
+use Rattle.layout.proofs.BoxLaws.{InBox, in-boxHas, boxHas-in, in-cube}
 use Rattle.layout.proofs.ContentLaws.{edited-kept, edited-length}
 use Rattle.regions.specs.declared.RegionTable.{RegionTable}
-use Rattle.regions.specs.Slots.{Rectangle, Slot, empty, filled, slotsOf}
-use Rattle.regions.specs.Rules.{slotAt, isFilled, rectangleOf, rectangleAt, boxInRectangle, cubeBox, editChecks}
+use Rattle.regions.specs.Slots.{Slot, slotsOf}
+use Rattle.regions.specs.Rules.{rectangleAt, cubeBox, editChecks}
 use Rattle.regions.specs.Calls.{editAnswer, editBuffer, readAnswer, readElements}
 use Rattle.regions.specs.Reads.{SameRead}
-use Rattle.regions.proofs.RuleLaws.{area-inside, edit-area, read-area}
+use Rattle.regions.proofs.RuleLaws.{ValidBox, read-accepted, edit-accepted}
 use Rattle.regions.proofs.ReadLaws.{same-elements}
 use Rattle.regions.proofs.OverlapLaws.{InRectangle}
 use Rattle.history.specs.Program.{Call, place, edit, read, State, step, writesElement}
@@ -41,8 +39,8 @@ module _ (t : RegionTable) (n : ℕ) (b : ElementBox) (xs : List ℤ) (buf : Lis
       → getD (leaves v (edited (t .layout) (cubeBox (rectangleAt (slotsOf t) n) b) xs buf) buf) p 0 ≡ getD buf p 0
   unfolding leaves
   edit-cases Accepted e p f =
-      let ok = area-inside (t .layout) (slotsOf t) n b (edit-area (t .layout) (slotsOf t) n b xs (length buf) e) in
-      edited-kept (t .layout) (cubeBox (rectangleAt (slotsOf t) n) b) xs buf (ok .layout) p f
+      let v = edit-accepted (t .layout) (slotsOf t) n b xs (length buf) e in
+      edited-kept (t .layout) (cubeBox (rectangleAt (slotsOf t) n) b) xs buf (v .admitted .layout) p f
   edit-cases (Refused r i) e p f = refl
 
   pub edit-names : (p : ℕ) → ((c h w k : ℕ) → InBox (cubeBox (rectangleAt (slotsOf t) n) b) c h w → k < sizeOf (t .layout) → p ≡ elementPosition (t .layout) c h w + k → ⊥)
@@ -73,35 +71,15 @@ call-changes s (edit n b xs) p f =
 call-changes s (read n b xs) p f = refl
 
 -- ---- a read through another region
-module _ (q : CubeLayout) (g : Rectangle) (b : ElementBox) (e : boxInRectangle q g b ≡ true) where
-  box-rows : Span (b .row) (b .rows) (g .rows)
-  unfolding boxInRectangle
-  box-rows =
-      let c = spanInside (b .channel) (b .channels) (q .channels) in
-      let r = spanInside (b .row) (b .rows) (g .rows) in
-      span-inside (b .row) (b .rows) (g .rows) (and-right c r (and-left (c && r) (spanInside (b .column) (b .columns) (g .columns)) e))
-
-  box-columns : Span (b .column) (b .columns) (g .columns)
-  unfolding boxInRectangle
-  box-columns =
-      span-inside (b .column) (b .columns) (g .columns)
-      (and-right (spanInside (b .channel) (b .channels) (q .channels) && spanInside (b .row) (b .rows) (g .rows)) (spanInside (b .column) (b .columns) (g .columns)) e)
-
-in-rectangle : (q : CubeLayout) (g : Rectangle) (b : ElementBox) → boxInRectangle q g b ≡ true → (c h w : ℕ) → InBox (cubeBox g b) c h w → InRectangle g w h
-in-rectangle q g b e c h w i =
-    let rs = box-rows q g b e in
-    let cs = box-columns q g b e in
+in-rectangle : (q : CubeLayout) (slots : List Slot) (n : ℕ) (b : ElementBox) → ValidBox q slots n b → (c h w : ℕ) → InBox (cubeBox (rectangleAt slots n) b) c h w
+    → InRectangle (rectangleAt slots n) w h
+in-rectangle q slots n b v c h w i =
     record {
       column-ge = omega (arith, i .column-ge);
-      column-lt = omega (arith, i .column-lt, cs .fit);
+      column-lt = omega (arith, i .column-lt, v .columns .fit);
       row-ge = omega (arith, i .row-ge);
-      row-lt = omega (arith, i .row-lt, rs .fit);
+      row-lt = omega (arith, i .row-lt, v .rows .fit);
     }
-
-is-filled : (s : Slot) → isFilled s ≡ true → s ≡ filled (rectangleOf s)
-unfolding isFilled rectangleOf
-is-filled empty e = let z : _≡_ {A = ℕ} 0 1 = cc in absurd (let f : ⊥ = omega arith in f)
-is-filled (filled g) e = refl
 
 module _ (t : RegionTable) (a : Apart (t .layout) (slotsOf t)) (n m : ℕ) (d : n ≢ m) (b : ElementBox) (xs : List ℤ) (b′ : ElementBox) (ys : List ℤ) (buf : List ℕ) where
   pub answer-kept : readAnswer t m b′ (length ys) (length (editBuffer t n b xs buf)) ≡ readAnswer t m b′ (length ys) (length buf)
@@ -115,16 +93,16 @@ module _ (t : RegionTable) (a : Apart (t .layout) (slotsOf t)) (n m : ℕ) (d : 
   bytes-kept r Accepted e c h w k i hk =
       let q = t .layout in
       let slots = slotsOf t in
-      let mine = area-inside q slots m b′ (read-area q slots m b′ (length ys) (length buf) r) in
-      let theirs = area-inside q slots n b (edit-area q slots n b xs (length buf) e) in
+      let mine = read-accepted q slots m b′ (length ys) (length buf) r .region in
+      let theirs = edit-accepted q slots n b xs (length buf) e .region in
       edit-names t n b xs buf (elementPosition q c h w + k)
       (λ c′ h′ w′ k′ i′ hk′ s.
-      no-shared-byte q (mine .layout) slots a m n (λ z. d (sym z)) (rectangleAt slots m) (rectangleAt slots n) (is-filled (slotAt slots m) (mine .placed)) (is-filled (slotAt slots n) (theirs .placed)) c h w k c′ h′ w′ k′
-      (in-cube q (cubeBox (rectangleAt slots m) b′) c h w (mine .area) i .channel-lt)
-      (in-rectangle q (rectangleAt slots m) b′ (mine .within) c h w i)
+      no-shared-byte q (mine .slot .layout) slots a m n (λ z. d (sym z)) (rectangleAt slots m) (rectangleAt slots n) (mine .slot .placed) (theirs .slot .placed) c h w k c′ h′ w′ k′
+      (in-cube q (cubeBox (rectangleAt slots m) b′) c h w (mine .box) i .channel-lt)
+      (in-rectangle q slots m b′ mine c h w i)
       hk
-      (in-cube q (cubeBox (rectangleAt slots n) b) c′ h′ w′ (theirs .area) i′ .channel-lt)
-      (in-rectangle q (rectangleAt slots n) b (theirs .within) c′ h′ w′ i′)
+      (in-cube q (cubeBox (rectangleAt slots n) b) c′ h′ w′ (theirs .box) i′ .channel-lt)
+      (in-rectangle q slots n b theirs c′ h′ w′ i′)
       hk′
       s)
   bytes-kept r (Refused x j) e c h w k i hk = ap (λ (l : List ℕ). getD l (elementPosition (t .layout) c h w + k) 0) (edit-refused t n b xs buf e)

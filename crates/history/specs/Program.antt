@@ -11,8 +11,9 @@ use Rattle.layout.specs.declared.CubeLayout.{CubeLayout}
 use Rattle.layout.specs.declared.ElementBox.{ElementBox}
 use Rattle.layout.specs.Boxes.{boxHas}
 use Rattle.layout.specs.Calls.{packAnswer, packBuffer}
+use Rattle.regions.specs.declared.Rectangle.{Rectangle}
 use Rattle.regions.specs.declared.RegionTable.{RegionTable}
-use Rattle.regions.specs.Slots.{Rectangle, Slot, slotsOf}
+use Rattle.regions.specs.Slots.{Slot, slotsOf}
 use Rattle.regions.specs.Rules.{rectangleAt, cubeBox}
 use Rattle.regions.specs.Calls.{emptyTable, placeAnswer, placeTable, editAnswer, editBuffer, readAnswer, readElements}
 

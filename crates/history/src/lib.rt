@@ -2,11 +2,11 @@
 // (specs/Program.antt). So the theorem about lists (proofs/Claims.antt) is about these calls (scope paper, "The plain picture").
 ghost use mathlib.Core.Path.{_≡_};
 ghost use mathlib.Core.List.{[]};
-ghost use Rattle.regions.specs.Slots.{rectangle};
 ghost use Rattle.history.specs.Program.{stateOf, stepOf, beginning, step, Call};
 use layout::CubeLayout;
 use layout::ElementBox;
 use regions::Outcome;
+use regions::Rectangle;
 use regions::RegionTable;
 
 // Packs a raw tensor and takes the empty table of its layout.
@@ -22,42 +22,34 @@ pub fn begin(layout: CubeLayout, elements: &[i16], buffer: &mut [u8]) -> Outcome
 }
 
 // Places a region.
-pub fn place(
-    table: RegionTable,
-    slot: u32,
-    column: u32,
-    row: u32,
-    columns: u32,
-    rows: u32,
-    buffer: &mut [u8],
-) -> Outcome
-    ensures { λ r. ⌜ stepOf (r .answer) [] (r .table) (now (buffer .exit)) ≡ step (stateOf table (now (buffer .entry))) (Call.place slot (rectangle column row columns rows)) ⌝ }
+pub fn place(table: RegionTable, slot: u32, rectangle: Rectangle, buffer: &mut [u8]) -> Outcome
+    ensures { λ r. ⌜ stepOf (r .answer) [] (r .table) (now (buffer .exit)) ≡ step (stateOf table (now (buffer .entry))) (Call.place slot rectangle) ⌝ }
 {
-    regions::place(table, slot, column, row, columns, rows)
+    regions::place(table, slot, rectangle)
 }
 
 // Writes a box of a region.
 pub fn edit(
     table: RegionTable,
     slot: u32,
-    area: ElementBox,
+    b: ElementBox,
     elements: &[i16],
     buffer: &mut [u8],
 ) -> Outcome
-    ensures { λ r. ⌜ stepOf (r .answer) (now (elements .entry)) (r .table) (now (buffer .exit)) ≡ step (stateOf table (now (buffer .entry))) (Call.edit slot area (now (elements .entry))) ⌝ }
+    ensures { λ r. ⌜ stepOf (r .answer) (now (elements .entry)) (r .table) (now (buffer .exit)) ≡ step (stateOf table (now (buffer .entry))) (Call.edit slot b (now (elements .entry))) ⌝ }
 {
-    regions::edit(table, slot, area, elements, buffer)
+    regions::edit(table, slot, b, elements, buffer)
 }
 
 // Reads a box of a region.
 pub fn read(
     table: RegionTable,
     slot: u32,
-    area: ElementBox,
+    b: ElementBox,
     elements: &mut [i16],
     buffer: &mut [u8],
 ) -> Outcome
-    ensures { λ r. ⌜ stepOf (r .answer) (now (elements .exit)) (r .table) (now (buffer .exit)) ≡ step (stateOf table (now (buffer .entry))) (Call.read slot area (now (elements .entry))) ⌝ }
+    ensures { λ r. ⌜ stepOf (r .answer) (now (elements .exit)) (r .table) (now (buffer .exit)) ≡ step (stateOf table (now (buffer .entry))) (Call.read slot b (now (elements .entry))) ⌝ }
 {
-    regions::read(table, slot, area, buffer, elements)
+    regions::read(table, slot, b, buffer, elements)
 }

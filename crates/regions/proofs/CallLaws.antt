@@ -22,26 +22,27 @@ use Rattle.layout.specs.Geometry.{elementPosition}
 use Rattle.layout.specs.Rules.{storageChecks}
 use Rattle.layout.specs.Contents.{edited, boxElements}
 use Rattle.layout.specs.Calls.{writeBoxAnswer, writeBoxBuffer, readBoxAnswer, readBoxElements, positionQuantity}
+use Rattle.regions.specs.declared.Rectangle.{Rectangle}
 use Rattle.regions.specs.declared.RegionTable.{RegionTable}
-use Rattle.regions.specs.Slots.{Rectangle, slotsOf}
-use Rattle.regions.specs.Rules.{rectangleAt, cubeBox, areaChecks, readChecks, editChecks}
+use Rattle.regions.specs.Slots.{slotsOf}
+use Rattle.regions.specs.Rules.{rectangleAt, cubeBox, regionBoxChecks, readChecks, editChecks}
 use Rattle.regions.specs.Calls.{placedRegion, placeAnswer, placeTable, editAnswer, editBuffer, readAnswer, readElements, regionPosition}
-use Rattle.regions.proofs.RuleLaws.{area-box, read-box, edit-box, place-accepted}
+use Rattle.regions.proofs.RuleLaws.{box-passes, read-box, edit-box, place-accepted}
 
 module _ (t : RegionTable) (n : ℕ) (b : ElementBox) where
   -- ---- edit
   module _ (xs : List ℤ) where
-    pub edit-denied : (len : ℕ) {r : Refusal} {i : ℕ} → inOrder (areaChecks (t .layout) (slotsOf t) n b) ≡ Refused r i → editAnswer t n b xs len ≡ Refused r i
+    pub edit-denied : (len : ℕ) {r : Refusal} {i : ℕ} → inOrder (regionBoxChecks (t .layout) (slotsOf t) n b) ≡ Refused r i → editAnswer t n b xs len ≡ Refused r i
     unfolding editAnswer editChecks readChecks
     edit-denied len e =
         inOrder-refused (readChecks (t .layout) (slotsOf t) n b (length xs) len) (valueChecks (t .layout .precision) xs)
-        (inOrder-refused (areaChecks (t .layout) (slotsOf t) n b) (storageChecks (t .layout) (boxCount b) (length xs) len) e)
+        (inOrder-refused (regionBoxChecks (t .layout) (slotsOf t) n b) (storageChecks (t .layout) (boxCount b) (length xs) len) e)
 
-    pub edit-kept : (before : List ℕ) {r : Refusal} {i : ℕ} → inOrder (areaChecks (t .layout) (slotsOf t) n b) ≡ Refused r i → before ≡ editBuffer t n b xs before
+    pub edit-kept : (before : List ℕ) {r : Refusal} {i : ℕ} → inOrder (regionBoxChecks (t .layout) (slotsOf t) n b) ≡ Refused r i → before ≡ editBuffer t n b xs before
     unfolding editBuffer
     edit-kept before e = sym (leaves-before _ before (edit-denied (length before) e))
 
-    module _ {box : ElementBox} (moved : box ≡ cubeBox (rectangleAt (slotsOf t) n) b) (ok : inOrder (areaChecks (t .layout) (slotsOf t) n b) ≡ Accepted) where
+    module _ {box : ElementBox} (moved : box ≡ cubeBox (rectangleAt (slotsOf t) n) b) (ok : inOrder (regionBoxChecks (t .layout) (slotsOf t) n b) ≡ Accepted) where
       pub edit-answered : (len : ℕ) → writeBoxAnswer (t .layout) box xs len ≡ editAnswer t n b xs len
       unfolding editAnswer
       edit-answered len = ap (λ (x : ElementBox). writeBoxAnswer (t .layout) x xs len) moved ∙ edit-box (t .layout) (slotsOf t) n b xs len ok
@@ -53,16 +54,16 @@ module _ (t : RegionTable) (n : ℕ) (b : ElementBox) where
           ∙ ap (λ (x : ElementBox). leaves (editAnswer t n b xs (length before)) (edited (t .layout) x xs before) before) moved
 
   -- ---- read
-  pub read-denied : (given len : ℕ) {r : Refusal} {i : ℕ} → inOrder (areaChecks (t .layout) (slotsOf t) n b) ≡ Refused r i → readAnswer t n b given len ≡ Refused r i
+  pub read-denied : (given len : ℕ) {r : Refusal} {i : ℕ} → inOrder (regionBoxChecks (t .layout) (slotsOf t) n b) ≡ Refused r i → readAnswer t n b given len ≡ Refused r i
   unfolding readAnswer readChecks
-  read-denied given len e = inOrder-refused (areaChecks (t .layout) (slotsOf t) n b) (storageChecks (t .layout) (boxCount b) given len) e
+  read-denied given len e = inOrder-refused (regionBoxChecks (t .layout) (slotsOf t) n b) (storageChecks (t .layout) (boxCount b) given len) e
 
   module _ (buffer : List ℕ) (before : List ℤ) where
-    pub read-kept : {r : Refusal} {i : ℕ} → inOrder (areaChecks (t .layout) (slotsOf t) n b) ≡ Refused r i → before ≡ readElements t n b buffer before
+    pub read-kept : {r : Refusal} {i : ℕ} → inOrder (regionBoxChecks (t .layout) (slotsOf t) n b) ≡ Refused r i → before ≡ readElements t n b buffer before
     unfolding readElements
     read-kept e = sym (leaves-before _ before (read-denied (length before) (length buffer) e))
 
-  module _ {box : ElementBox} (moved : box ≡ cubeBox (rectangleAt (slotsOf t) n) b) (ok : inOrder (areaChecks (t .layout) (slotsOf t) n b) ≡ Accepted) where
+  module _ {box : ElementBox} (moved : box ≡ cubeBox (rectangleAt (slotsOf t) n) b) (ok : inOrder (regionBoxChecks (t .layout) (slotsOf t) n b) ≡ Accepted) where
     pub read-answered : (given len : ℕ) → readBoxAnswer (t .layout) box given len ≡ readAnswer t n b given len
     unfolding readAnswer
     read-answered given len = ap (λ (x : ElementBox). readBoxAnswer (t .layout) x given len) moved ∙ read-box (t .layout) (slotsOf t) n b given len ok
@@ -89,15 +90,15 @@ module _ (t : RegionTable) (n : ℕ) (g : Rectangle) where
 
 -- ---- position
 module _ (t : RegionTable) (n c h w : ℕ) where
-  pub position-denied : {r : Refusal} {i : ℕ} → inOrder (areaChecks (t .layout) (slotsOf t) n (oneElement c h w)) ≡ Refused r i → Denied r i ≡ regionPosition t n c h w
+  pub position-denied : {r : Refusal} {i : ℕ} → inOrder (regionBoxChecks (t .layout) (slotsOf t) n (oneElement c h w)) ≡ Refused r i → Denied r i ≡ regionPosition t n c h w
   unfolding regionPosition
   position-denied e = sym (quantity-denied _ e)
 
   pub position-is : {box : ElementBox} → box ≡ cubeBox (rectangleAt (slotsOf t) n) (oneElement c h w)
-      → inOrder (areaChecks (t .layout) (slotsOf t) n (oneElement c h w)) ≡ Accepted
+      → inOrder (regionBoxChecks (t .layout) (slotsOf t) n (oneElement c h w)) ≡ Accepted
       → positionQuantity (t .layout) (box .channel) (box .row) (box .column) ≡ regionPosition t n c h w
   unfolding regionPosition positionQuantity
   position-is moved ok =
       rw moved
-      (quantity-is (elementPosition (t .layout) c (rectangleAt (slotsOf t) n .row + h) (rectangleAt (slotsOf t) n .column + w)) (area-box (t .layout) (slotsOf t) n (oneElement c h w) ok)
+      (quantity-is (elementPosition (t .layout) c (rectangleAt (slotsOf t) n .row + h) (rectangleAt (slotsOf t) n .column + w)) (box-passes (t .layout) (slotsOf t) n (oneElement c h w) ok)
       ∙ sym (quantity-is (elementPosition (t .layout) c (rectangleAt (slotsOf t) n .row + h) (rectangleAt (slotsOf t) n .column + w)) ok))

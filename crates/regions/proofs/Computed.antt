@@ -21,10 +21,11 @@ use Rattle.layout.specs.Boxes.{oneElement, boxCount, spanInside, spanHas, boxHa
 use Rattle.layout.specs.Rules.{sizesTaken, wholeAtoms, stridesTaken, layoutChecks, storageChecks}
 use Rattle.layout.specs.Owners.{surfaceOf, rowOf, columnOf, byteInAtom, inAtom, atomOwner, owner}
 use Rattle.layout.specs.Contents.{editedByte, edited, storedElement, boxElements}
+use Rattle.regions.specs.declared.Rectangle.{Rectangle}
 use Rattle.regions.specs.declared.Region.{Region}
 use Rattle.regions.specs.declared.RegionTable.{RegionTable}
-use Rattle.regions.specs.Slots.{Rectangle, rectangle, slotOf, slotsOf, rectangleHas, taken, anyFrom, overlaps, rectangleInside}
-use Rattle.regions.specs.Rules.{slotAt, isFilled, rectangleOf, placeChecks, boxInRectangle, areaChecks, readChecks, editChecks}
+use Rattle.regions.specs.Slots.{rectangle, slotOf, slotsOf, rectangleHas, occupied, anyFrom, overlaps, rectangleInside}
+use Rattle.regions.specs.Rules.{slotAt, isFilled, rectangleOf, placeChecks, boxInRectangle, slotChecks, regionBoxChecks, readChecks, editChecks}
 use Rattle.regions.specs.Calls.{emptyTable, placedRegion, placeAnswer, placeTable, editAnswer, editBuffer, readAnswer, readElements, regionPosition}
 
 abbrev frame : CubeLayout
@@ -80,7 +81,7 @@ pub record Computed : Type 0 where
   pub refused : readElements small 0 (oneElement 0 0 1) (replicate 64 9) (pos 200 ∷ []) ≡ pos 200 ∷ []
 
 pub computed : Computed
-unfolding requireAt inOrder leaves quantity sizeTaken elementBytes byteOf wordAt signed elementAt remadeFrom remade tabulateFrom tabulate valueTaken valueCheck valueChecksFrom valueChecks surfaces elementPosition cubeExtent boxCount spanInside spanHas boxHas boxIndex channelAt rowAt columnAt sizesTaken wholeAtoms stridesTaken layoutChecks storageChecks surfaceOf rowOf columnOf byteInAtom inAtom atomOwner owner editedByte edited storedElement boxElements slotOf slotsOf rectangleHas taken anyFrom overlaps rectangleInside slotAt isFilled rectangleOf placeChecks boxInRectangle areaChecks readChecks editChecks placeAnswer placeTable editAnswer editBuffer readAnswer readElements regionPosition
+unfolding requireAt inOrder leaves quantity sizeTaken elementBytes byteOf wordAt signed elementAt remadeFrom remade tabulateFrom tabulate valueTaken valueCheck valueChecksFrom valueChecks surfaces elementPosition cubeExtent boxCount spanInside spanHas boxHas boxIndex channelAt rowAt columnAt sizesTaken wholeAtoms stridesTaken layoutChecks storageChecks surfaceOf rowOf columnOf byteInAtom inAtom atomOwner owner editedByte edited storedElement boxElements slotOf slotsOf rectangleHas occupied anyFrom overlaps rectangleInside slotAt isFilled rectangleOf placeChecks boxInRectangle slotChecks regionBoxChecks readChecks editChecks placeAnswer placeTable editAnswer editBuffer readAnswer readElements regionPosition
 computed =
     record {
       overlap = refl;

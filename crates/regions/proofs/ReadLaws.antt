@@ -24,10 +24,10 @@ use Rattle.layout.specs.Contents.{storedElement, boxElements}
 use Rattle.layout.proofs.BoxLaws.{BoxTaken, at-in, in-boxHas}
 use Rattle.regions.specs.declared.RegionTable.{RegionTable}
 use Rattle.regions.specs.Slots.{Slot, slotsOf, rectangleInside}
-use Rattle.regions.specs.Rules.{slotAt, isFilled, rectangleOf, rectangleAt, boxInRectangle, cubeBox, areaChecks, readChecks}
+use Rattle.regions.specs.Rules.{slotAt, isFilled, rectangleOf, rectangleAt, boxInRectangle, cubeBox, slotChecks, regionBoxChecks, readChecks}
 use Rattle.regions.specs.Calls.{readAnswer, readElements}
 use Rattle.regions.specs.Reads.{SameRead}
-use Rattle.regions.proofs.RuleLaws.{area-inside, read-area}
+use Rattle.regions.proofs.RuleLaws.{read-accepted}
 
 -- ---- the elements of a box, from its elements' bytes alone
 
@@ -49,12 +49,12 @@ module _ (q : CubeLayout) (box : ElementBox) (buffer buffer′ : List ℕ)
 
 checksOf : CubeLayout → Slot → ℕ → ElementBox → ℕ → ℕ → List Answer
 checksOf q s n b given len =
-    (layoutChecks q
-    ++ (require SlotRefusal (ltb n 16 && isFilled s) ∷ require Bounds (rectangleInside q (rectangleOf s) && boxInRectangle q (rectangleOf s) b) ∷ []))
+    ((layoutChecks q ++ (require SlotRefusal (ltb n 16 && isFilled s) ∷ []))
+    ++ (require Bounds (rectangleInside q (rectangleOf s)) ∷ require Bounds (boxInRectangle q (rectangleOf s) b) ∷ []))
     ++ storageChecks q (boxCount b) given len
 
 by-slot : (q : CubeLayout) (slots : List Slot) (n : ℕ) (b : ElementBox) (given len : ℕ) → readChecks q slots n b given len ≡ checksOf q (slotAt slots n) n b given len
-unfolding readChecks areaChecks checksOf
+unfolding readChecks regionBoxChecks slotChecks checksOf
 by-slot q slots n b given len = refl
 
 -- ---- two reads
@@ -74,9 +74,9 @@ module _ (n : ℕ) (b : ElementBox) (t t′ : RegionTable) (buffer buffer′ : L
   same-elements a =
       let box = cubeBox (rectangleAt (slotsOf t) n) b in
       let box′ = cubeBox (rectangleAt (slotsOf t′) n) b in
-      let i = area-inside (t .layout) (slotsOf t) n b (read-area (t .layout) (slotsOf t) n b (length xs) (length buffer) a) in
+      let v = read-accepted (t .layout) (slotsOf t) n b (length xs) (length buffer) a in
       let moved : boxElements (t .layout) box buffer′ ≡ boxElements (t′ .layout) box′ buffer′ = rw (same .slot, same .layout) in
       leaves-done (boxElements (t .layout) box buffer) xs a
-      ∙ box-same (t .layout) box buffer buffer′ (same .bytes) (i .area)
+      ∙ box-same (t .layout) box buffer buffer′ (same .bytes) (v .region .box)
       ∙ moved
       ∙ sym (leaves-done (boxElements (t′ .layout) box′ buffer′) xs′ (sym same-answer ∙ a))

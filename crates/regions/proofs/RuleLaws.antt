@@ -1,13 +1,13 @@
 -- The orders of checks: what an accepted call tells, and that the checks which writing or reading the cube's box repeats never refuse. By taking
 -- the lists of checks apart. Assumes nothing.
---     rectangle-columns, rectangle-rows   the spans of a rectangle in the cube
---     cube-count                          a box has as many elements in the cube as in its rectangle
---     cube-area                           a box in a rectangle in the cube is in the cube
---     Area, area-inside                   what accepted checks 1 to 4, 8, 9 tell
---     area-box                            they tell that checks 1 to 4, 9 of the cube's box pass
---     read-area, read-admitted, read-box  an accepted read; after 9 it answers as reading the cube's box does
---     edit-read, edit-area, edit-admitted, edit-values, edit-box     the same of an edit
---     Placing, place-accepted             what an accepted placing tells
+--     inOrder-all, requireAt-held          every check of an accepted list held
+--     rectangle-columns, rectangle-rows    the spans of a rectangle in the cube
+--     Placing, place-accepted              what an accepted placing tells
+--     ValidSlot, slot-accepted             what accepted checks 1 to 4, 8 tell
+--     ValidBox, box-accepted               what accepted checks 1 to 4, 8, 9 tell
+--     read-box, edit-box                   after 9 a call answers as reading or writing the cube's box does
+--     ValidRead, read-accepted             what an accepted read tells
+--     ValidEdit, edit-accepted             what an accepted edit tells
 use Prim.Native.Nat.{ℕ, _+_, _<_}
 use native.Mathlib.Omega.{arith}
 use mathlib.Core.Path.{_≡_, refl, sym, ap, _∙_}
@@ -18,160 +18,66 @@ use lib.IntN.{ℤ}
 use lib.Dec.{ltb}
 use borrow.Author.Tests.{ltb-true, not-true}
 use Rattle.refusal.specs.declared.Answer.{Answer}
-use Rattle.refusal.specs.declared.Answer.the-variants.{Accepted}
-use Rattle.refusal.specs.declared.Refusal.the-variants.{Slot as SlotRefusal, Bounds, Overlap}
-use Rattle.refusal.specs.Checks.{require, inOrder}
-use Rattle.refusal.proofs.CheckLaws.{inOrder-held, inOrder-rest, inOrder-front, inOrder-back, inOrder-passed, inOrder-same}
+use Rattle.refusal.specs.declared.Answer.the-variants.{Accepted, Refused}
+use Rattle.refusal.specs.declared.Refusal.{Refusal}
+use Rattle.refusal.specs.Checks.{requireAt, inOrder}
+use Rattle.refusal.proofs.CheckLaws.{inOrder-front, inOrder-back, inOrder-passed, inOrder-same}
+use Rattle.refusal.proofs.TestLaws.{and-left, and-right}
 use Rattle.elements.specs.Values.{valueChecks}
 use Rattle.layout.specs.declared.CubeLayout.{CubeLayout}
 use Rattle.layout.specs.declared.ElementBox.{ElementBox}
 use Rattle.layout.specs.Boxes.{spanInside, boxCount}
 use Rattle.layout.specs.Rules.{layoutChecks, boxChecks, storageChecks, admitChecks}
 use Rattle.layout.specs.Calls.{readBoxAnswer, writeBoxAnswer}
-use Rattle.refusal.proofs.TestLaws.{and-left, and-right}
 use Rattle.layout.proofs.Taken.{Taken, taken}
 use Rattle.layout.proofs.BoxLaws.{Span, span-inside, BoxTaken, taken-box}
-use Rattle.layout.proofs.CallLaws.{Admitted, admitted, box-accepted}
-use Rattle.regions.specs.Slots.{Rectangle, Slot, rectangleInside, overlaps}
-use Rattle.regions.specs.Rules.{slotAt, isFilled, rectangleAt, placeChecks, boxInRectangle, cubeBox, areaChecks, readChecks, editChecks}
+use Rattle.layout.proofs.CallLaws as calls
+use Rattle.regions.specs.declared.Rectangle.{Rectangle}
+use Rattle.regions.specs.Slots.{Slot, empty, filled, rectangleInside, overlaps}
+use Rattle.regions.specs.Rules.{slotAt, isFilled, rectangleOf, rectangleAt, placeChecks, boxInRectangle, cubeBox, slotChecks, regionBoxChecks, readChecks, editChecks}
 
--- ---- rectangles
+-- ---- every check of an accepted list held
+unfoldable pub Held : List Answer → Type 0
+Held [] = Unit {0}
+Held (a ∷ rest) = (a ≡ Accepted) × Held rest
 
+pub inOrder-all : (checks : List Answer) → inOrder checks ≡ Accepted → Held checks
+unfolding Held inOrder
+inOrder-all [] e = tt
+inOrder-all (Accepted ∷ rest) e = (refl, inOrder-all rest e)
+inOrder-all (Refused r i ∷ rest) e = absurd (let z : _≡_ {A = ℕ} 0 1 = cc in omega arith)
+
+pub requireAt-held : (i : ℕ) (r : Refusal) (b : Bool) → requireAt i r b ≡ Accepted → b ≡ true
+unfolding requireAt
+requireAt-held i r true e = refl
+requireAt-held i r false e = cc
+
+-- ---- rectangles and boxes
 module _ (q : CubeLayout) (g : Rectangle) where
   pub rectangle-columns : rectangleInside q g ≡ true → Span (g .column) (g .columns) (q .width)
   unfolding rectangleInside
-  rectangle-columns e =
-      span-inside (g .column) (g .columns) (q .width) (and-left (spanInside (g .column) (g .columns) (q .width)) (spanInside (g .row) (g .rows) (q .height)) e)
+  rectangle-columns e = span-inside (g .column) (g .columns) (q .width) (and-left _ _ e)
 
   pub rectangle-rows : rectangleInside q g ≡ true → Span (g .row) (g .rows) (q .height)
   unfolding rectangleInside
-  rectangle-rows e =
-      span-inside (g .row) (g .rows) (q .height) (and-right (spanInside (g .column) (g .columns) (q .width)) (spanInside (g .row) (g .rows) (q .height)) e)
+  rectangle-rows e = span-inside (g .row) (g .rows) (q .height) (and-right (spanInside (g .column) (g .columns) (q .width)) _ e)
 
 -- a span of a span
 inner : (a n s b m : ℕ) → Span a n s → Span b m n → Span (a + b) m s
 inner a n s b m o i = record { some = i .some; fit = omega (arith, o .fit, i .fit) }
 
-pub cube-count : (g : Rectangle) (b : ElementBox) → boxCount (cubeBox g b) ≡ boxCount b
+cube-count : (g : Rectangle) (b : ElementBox) → boxCount (cubeBox g b) ≡ boxCount b
 unfolding boxCount
 cube-count g b = refl
 
-module _ (q : CubeLayout) (g : Rectangle) (b : ElementBox) where
-  pub cube-area : rectangleInside q g ≡ true → boxInRectangle q g b ≡ true → BoxTaken q (cubeBox g b)
-  unfolding boxInRectangle
-  cube-area r e =
-      let t1 = spanInside (b .channel) (b .channels) (q .channels) in
-      let t2 = spanInside (b .row) (b .rows) (g .rows) in
-      let t3 = spanInside (b .column) (b .columns) (g .columns) in
-      let e12 = and-left (t1 && t2) t3 e in
-      record {
-        channels = span-inside (b .channel) (b .channels) (q .channels) (and-left t1 t2 e12);
-        rows = inner (g .row) (g .rows) (q .height) (b .row) (b .rows) (rectangle-rows q g r) (span-inside (b .row) (b .rows) (g .rows) (and-right t1 t2 e12));
-        columns = inner (g .column) (g .columns) (q .width) (b .column) (b .columns) (rectangle-columns q g r) (span-inside (b .column) (b .columns) (g .columns) (and-right (t1 && t2) t3 e));
-      }
+filled-slot : (s : Slot) → isFilled s ≡ true → s ≡ filled (rectangleOf s)
+unfolding isFilled rectangleOf
+filled-slot empty e = absurd (let z : _≡_ {A = ℕ} 0 1 = cc in omega arith)
+filled-slot (filled g) e = refl
 
--- ---- checks 1 to 4, 8, 9
+-- ---- place: 1 to 4, 8, 9, 10
 
--- what they tell: the layout is taken, the slot is filled, its rectangle is in the cube, the box is in the rectangle, and so in the cube
-pub record Area (q : CubeLayout) (slots : List Slot) (n : ℕ) (b : ElementBox) : Type 0 where
-  pub layout : Taken q
-  pub number : n < 16
-  pub placed : isFilled (slotAt slots n) ≡ true
-  pub inside : rectangleInside q (rectangleAt slots n) ≡ true
-  pub within : boxInRectangle q (rectangleAt slots n) b ≡ true
-  pub area : BoxTaken q (cubeBox (rectangleAt slots n) b)
-
-module _ (q : CubeLayout) (slots : List Slot) (n : ℕ) (b : ElementBox) where
-  abbrev filled-test : Bool
-  filled-test = ltb n 16 && isFilled (slotAt slots n)
-
-  abbrev inside-test : Bool
-  inside-test = rectangleInside q (rectangleAt slots n) && boxInRectangle q (rectangleAt slots n) b
-
-  abbrev last-check : List Answer
-  last-check = require Bounds inside-test ∷ []
-
-  abbrev two-checks : List Answer
-  two-checks = require SlotRefusal filled-test ∷ last-check
-
-  pub area-layout : inOrder (areaChecks q slots n b) ≡ Accepted → inOrder (layoutChecks q) ≡ Accepted
-  unfolding areaChecks
-  area-layout e = inOrder-front (layoutChecks q) two-checks e
-
-  area-filled : inOrder (areaChecks q slots n b) ≡ Accepted → filled-test ≡ true
-  unfolding areaChecks
-  area-filled e = inOrder-held 0 SlotRefusal filled-test last-check (inOrder-back (layoutChecks q) two-checks e)
-
-  area-bounds : inOrder (areaChecks q slots n b) ≡ Accepted → inside-test ≡ true
-  unfolding areaChecks
-  area-bounds e = inOrder-held 0 Bounds inside-test [] (inOrder-rest 0 SlotRefusal filled-test last-check (inOrder-back (layoutChecks q) two-checks e))
-
-  pub area-inside : inOrder (areaChecks q slots n b) ≡ Accepted → Area q slots n b
-  area-inside e =
-      let g = rectangleAt slots n in
-      let r = and-left (rectangleInside q g) (boxInRectangle q g b) (area-bounds e) in
-      let i = and-right (rectangleInside q g) (boxInRectangle q g b) (area-bounds e) in
-      record {
-        layout = taken q (area-layout e);
-        number = ltb-true n 16 (and-left (ltb n 16) (isFilled (slotAt slots n)) (area-filled e));
-        placed = and-right (ltb n 16) (isFilled (slotAt slots n)) (area-filled e);
-        inside = r;
-        within = i;
-        area = cube-area q g b r i;
-      }
-
-  pub area-box : inOrder (areaChecks q slots n b) ≡ Accepted → inOrder (boxChecks q (cubeBox (rectangleAt slots n) b)) ≡ Accepted
-  area-box e = let box = cubeBox (rectangleAt slots n) b in sym (box-accepted q box (area-layout e) (taken-box q box (area-inside e .area)))
-
--- ---- read: 6 and 5 after them
-module _ (q : CubeLayout) (slots : List Slot) (n : ℕ) (b : ElementBox) (given len : ℕ) where
-  pub read-area : inOrder (readChecks q slots n b given len) ≡ Accepted → inOrder (areaChecks q slots n b) ≡ Accepted
-  unfolding readChecks
-  read-area e = inOrder-front (areaChecks q slots n b) (storageChecks q (boxCount b) given len) e
-
-  -- the cube's box is admitted exactly as the rest of the checks answer
-  admit-same : inOrder (areaChecks q slots n b) ≡ Accepted → inOrder (admitChecks q (cubeBox (rectangleAt slots n) b) given len) ≡ inOrder (readChecks q slots n b given len)
-  unfolding readChecks admitChecks
-  admit-same ok =
-      let box = cubeBox (rectangleAt slots n) b in
-      inOrder-passed (boxChecks q box) (storageChecks q (boxCount box) given len) (area-box q slots n b ok)
-      ∙ ap (λ (k : ℕ). inOrder (storageChecks q k given len)) (cube-count (rectangleAt slots n) b)
-      ∙ sym (inOrder-passed (areaChecks q slots n b) (storageChecks q (boxCount b) given len) ok)
-
-  pub read-box : inOrder (areaChecks q slots n b) ≡ Accepted → readBoxAnswer q (cubeBox (rectangleAt slots n) b) given len ≡ inOrder (readChecks q slots n b given len)
-  unfolding readBoxAnswer
-  read-box ok = admit-same ok
-
-  pub read-admitted : inOrder (readChecks q slots n b given len) ≡ Accepted → Admitted q (cubeBox (rectangleAt slots n) b) given len
-  read-admitted e = admitted q (cubeBox (rectangleAt slots n) b) given len (admit-same (read-area e) ∙ e)
-
--- ---- edit: 7 after them
-module _ (q : CubeLayout) (slots : List Slot) (n : ℕ) (b : ElementBox) (xs : List ℤ) (len : ℕ) where
-  pub edit-read : inOrder (editChecks q slots n b xs len) ≡ Accepted → inOrder (readChecks q slots n b (length xs) len) ≡ Accepted
-  unfolding editChecks
-  edit-read e = inOrder-front (readChecks q slots n b (length xs) len) (valueChecks (q .precision) xs) e
-
-  pub edit-values : inOrder (editChecks q slots n b xs len) ≡ Accepted → inOrder (valueChecks (q .precision) xs) ≡ Accepted
-  unfolding editChecks
-  edit-values e = inOrder-back (readChecks q slots n b (length xs) len) (valueChecks (q .precision) xs) e
-
-  pub edit-area : inOrder (editChecks q slots n b xs len) ≡ Accepted → inOrder (areaChecks q slots n b) ≡ Accepted
-  edit-area e = read-area q slots n b (length xs) len (edit-read e)
-
-  pub edit-admitted : inOrder (editChecks q slots n b xs len) ≡ Accepted → Admitted q (cubeBox (rectangleAt slots n) b) (length xs) len
-  edit-admitted e = read-admitted q slots n b (length xs) len (edit-read e)
-
-module _ (q : CubeLayout) (slots : List Slot) (n : ℕ) (b : ElementBox) (xs : List ℤ) (len : ℕ) where
-  pub edit-box : inOrder (areaChecks q slots n b) ≡ Accepted → writeBoxAnswer q (cubeBox (rectangleAt slots n) b) xs len ≡ inOrder (editChecks q slots n b xs len)
-  unfolding writeBoxAnswer editChecks
-  edit-box ok =
-      let box = cubeBox (rectangleAt slots n) b in
-      inOrder-same (admitChecks q box (length xs) len) (readChecks q slots n b (length xs) len) (valueChecks (q .precision) xs)
-      (inOrder (readChecks q slots n b (length xs) len)) (admit-same q slots n b (length xs) len ok) refl
-
--- ---- place
-
--- what an accepted placing tells: the layout is taken, the slot is one of the sixteen and empty, the rectangle is in the cube and overlaps none
+-- the layout is valid, the slot is one of the sixteen and empty, the rectangle is in the cube and overlaps none
 pub record Placing (q : CubeLayout) (slots : List Slot) (n : ℕ) (g : Rectangle) : Type 0 where
   pub layout : Taken q
   pub number : n < 16
@@ -180,20 +86,119 @@ pub record Placing (q : CubeLayout) (slots : List Slot) (n : ℕ) (g : Rectangle
   pub apart : overlaps slots g ≡ false
 
 pub place-accepted : (q : CubeLayout) (slots : List Slot) (n : ℕ) (g : Rectangle) → inOrder (placeChecks q slots n g) ≡ Accepted → Placing q slots n g
-unfolding placeChecks
+unfolding placeChecks Held
 place-accepted q slots n g e =
-    let free = ltb n 16 && not (isFilled (slotAt slots n)) in
-    let r3 : List Answer = require Overlap (not (overlaps slots g)) ∷ [] in
-    let r2 : List Answer = require Bounds (rectangleInside q g) ∷ r3 in
-    let r1 : List Answer = require SlotRefusal free ∷ r2 in
-    let e1 = inOrder-back (layoutChecks q) r1 e in
-    let e2 = inOrder-rest 0 SlotRefusal free r2 e1 in
-    let e3 = inOrder-rest 0 Bounds (rectangleInside q g) r3 e2 in
-    let f = inOrder-held 0 SlotRefusal free r2 e1 in
+    let held = inOrder-all _ (inOrder-back (layoutChecks q) _ e) in
+    let free = requireAt-held _ _ _ (held .0) in
     record {
-      layout = taken q (inOrder-front (layoutChecks q) r1 e);
-      number = ltb-true n 16 (and-left (ltb n 16) (not (isFilled (slotAt slots n))) f);
-      vacant = not-true (isFilled (slotAt slots n)) (and-right (ltb n 16) (not (isFilled (slotAt slots n))) f);
-      inside = inOrder-held 0 Bounds (rectangleInside q g) r3 e2;
-      apart = not-true (overlaps slots g) (inOrder-held 0 Overlap (not (overlaps slots g)) [] e3);
+      layout = taken q (inOrder-front (layoutChecks q) _ e);
+      number = ltb-true n 16 (and-left _ _ free);
+      vacant = not-true _ (and-right (ltb n 16) _ free);
+      inside = requireAt-held _ _ _ (held .1 .0);
+      apart = not-true _ (requireAt-held _ _ _ (held .1 .1 .0));
     }
+
+-- ---- a slot: 1 to 4, 8
+
+-- the layout is valid, the slot is one of the sixteen and filled
+pub record ValidSlot (q : CubeLayout) (slots : List Slot) (n : ℕ) : Type 0 where
+  pub checked : inOrder (layoutChecks q) ≡ Accepted
+  pub layout : Taken q
+  pub number : n < 16
+  pub placed : slotAt slots n ≡ filled (rectangleAt slots n)
+
+pub slot-accepted : (q : CubeLayout) (slots : List Slot) (n : ℕ) → inOrder (slotChecks q slots n) ≡ Accepted → ValidSlot q slots n
+unfolding slotChecks Held
+slot-accepted q slots n e =
+    let there = requireAt-held _ _ _ (inOrder-all _ (inOrder-back (layoutChecks q) _ e) .0) in
+    record {
+      checked = inOrder-front (layoutChecks q) _ e;
+      layout = taken q (inOrder-front (layoutChecks q) _ e);
+      number = ltb-true n 16 (and-left _ _ there);
+      placed = filled-slot (slotAt slots n) (and-right (ltb n 16) _ there);
+    }
+
+-- ---- a box in a region: 9 after them
+
+-- the slot is valid, its rectangle is in the cube, the box is in the rectangle, and so in the cube
+pub record ValidBox (q : CubeLayout) (slots : List Slot) (n : ℕ) (b : ElementBox) : Type 0 where
+  pub slot : ValidSlot q slots n
+  pub inside : rectangleInside q (rectangleAt slots n) ≡ true
+  pub rows : Span (b .row) (b .rows) (rectangleAt slots n .rows)
+  pub columns : Span (b .column) (b .columns) (rectangleAt slots n .columns)
+  pub box : BoxTaken q (cubeBox (rectangleAt slots n) b)
+
+module _ (q : CubeLayout) (slots : List Slot) (n : ℕ) (b : ElementBox) where
+  pub box-accepted : inOrder (regionBoxChecks q slots n b) ≡ Accepted → ValidBox q slots n b
+  unfolding regionBoxChecks boxInRectangle Held
+  box-accepted e =
+      let g = rectangleAt slots n in
+      let held = inOrder-all _ (inOrder-back (slotChecks q slots n) _ e) in
+      let inside = requireAt-held _ _ _ (held .0) in
+      let within = requireAt-held _ _ _ (held .1 .0) in
+      let first = and-left (spanInside (b .channel) (b .channels) (q .channels) && spanInside (b .row) (b .rows) (g .rows)) _ within in
+      let rows = span-inside (b .row) (b .rows) (g .rows) (and-right (spanInside (b .channel) (b .channels) (q .channels)) _ first) in
+      let columns = span-inside (b .column) (b .columns) (g .columns) (and-right (spanInside (b .channel) (b .channels) (q .channels) && spanInside (b .row) (b .rows) (g .rows)) _ within) in
+      record {
+        slot = slot-accepted q slots n (inOrder-front (slotChecks q slots n) _ e);
+        inside = inside;
+        rows = rows;
+        columns = columns;
+        box =
+            record {
+              channels = span-inside (b .channel) (b .channels) (q .channels) (and-left _ (spanInside (b .row) (b .rows) (g .rows)) first);
+              rows = inner (g .row) (g .rows) (q .height) (b .row) (b .rows) (rectangle-rows q g inside) rows;
+              columns = inner (g .column) (g .columns) (q .width) (b .column) (b .columns) (rectangle-columns q g inside) columns;
+            };
+      }
+
+  -- checks 1 to 4, 9 of the cube's box pass
+  pub box-passes : inOrder (regionBoxChecks q slots n b) ≡ Accepted → inOrder (boxChecks q (cubeBox (rectangleAt slots n) b)) ≡ Accepted
+  box-passes e =
+      let box = cubeBox (rectangleAt slots n) b in
+      let v = box-accepted e in
+      sym (calls.box-accepted q box (v .slot .checked) (taken-box q box (v .box)))
+
+-- ---- read: 6 and 5 after them
+pub record ValidRead (q : CubeLayout) (slots : List Slot) (n : ℕ) (b : ElementBox) (given len : ℕ) : Type 0 where
+  pub region : ValidBox q slots n b
+  pub admitted : calls.Admitted q (cubeBox (rectangleAt slots n) b) given len
+
+module _ (q : CubeLayout) (slots : List Slot) (n : ℕ) (b : ElementBox) (given len : ℕ) where
+  -- the cube's box is admitted exactly as the rest of the checks answer
+  admit-same : inOrder (regionBoxChecks q slots n b) ≡ Accepted → inOrder (admitChecks q (cubeBox (rectangleAt slots n) b) given len) ≡ inOrder (readChecks q slots n b given len)
+  unfolding readChecks admitChecks
+  admit-same ok =
+      let box = cubeBox (rectangleAt slots n) b in
+      inOrder-passed (boxChecks q box) (storageChecks q (boxCount box) given len) (box-passes q slots n b ok)
+      ∙ ap (λ (k : ℕ). inOrder (storageChecks q k given len)) (cube-count (rectangleAt slots n) b)
+      ∙ sym (inOrder-passed (regionBoxChecks q slots n b) (storageChecks q (boxCount b) given len) ok)
+
+  pub read-box : inOrder (regionBoxChecks q slots n b) ≡ Accepted → readBoxAnswer q (cubeBox (rectangleAt slots n) b) given len ≡ inOrder (readChecks q slots n b given len)
+  unfolding readBoxAnswer
+  read-box ok = admit-same ok
+
+  pub read-accepted : inOrder (readChecks q slots n b given len) ≡ Accepted → ValidRead q slots n b given len
+  unfolding readChecks
+  read-accepted e =
+      let ok = inOrder-front (regionBoxChecks q slots n b) _ e in
+      record { region = box-accepted q slots n b ok; admitted = calls.admitted q (cubeBox (rectangleAt slots n) b) given len (admit-same ok ∙ e) }
+
+-- ---- edit: 7 after them
+pub record ValidEdit (q : CubeLayout) (slots : List Slot) (n : ℕ) (b : ElementBox) (xs : List ℤ) (len : ℕ) : Type 0 where
+  pub region : ValidBox q slots n b
+  pub admitted : calls.Admitted q (cubeBox (rectangleAt slots n) b) (length xs) len
+  pub values : inOrder (valueChecks (q .precision) xs) ≡ Accepted
+
+module _ (q : CubeLayout) (slots : List Slot) (n : ℕ) (b : ElementBox) (xs : List ℤ) (len : ℕ) where
+  pub edit-box : inOrder (regionBoxChecks q slots n b) ≡ Accepted → writeBoxAnswer q (cubeBox (rectangleAt slots n) b) xs len ≡ inOrder (editChecks q slots n b xs len)
+  unfolding writeBoxAnswer editChecks
+  edit-box ok =
+      inOrder-same (admitChecks q (cubeBox (rectangleAt slots n) b) (length xs) len) (readChecks q slots n b (length xs) len) (valueChecks (q .precision) xs)
+      (inOrder (readChecks q slots n b (length xs) len)) (admit-same q slots n b (length xs) len ok) refl
+
+  pub edit-accepted : inOrder (editChecks q slots n b xs len) ≡ Accepted → ValidEdit q slots n b xs len
+  unfolding editChecks
+  edit-accepted e =
+      let r = read-accepted q slots n b (length xs) len (inOrder-front (readChecks q slots n b (length xs) len) _ e) in
+      record { region = r .region; admitted = r .admitted; values = inOrder-back (readChecks q slots n b (length xs) len) _ e }

@@ -13,18 +13,19 @@ use Rattle.layout.specs.declared.ElementBox.{ElementBox}
 use Rattle.layout.specs.Boxes.{oneElement}
 use Rattle.layout.specs.Geometry.{elementPosition}
 use Rattle.layout.specs.Contents.{edited, boxElements}
+use Rattle.regions.specs.declared.Rectangle.{Rectangle}
 use Rattle.regions.specs.declared.Region.{Region}
 use Rattle.regions.specs.declared.RegionTable.{RegionTable}
-use Rattle.regions.specs.Slots.{Rectangle, slotsOf}
-use Rattle.regions.specs.Rules.{placeChecks, areaChecks, readChecks, editChecks, rectangleAt, cubeBox}
+use Rattle.regions.specs.Slots.{rectangle, slotsOf}
+use Rattle.regions.specs.Rules.{placeChecks, regionBoxChecks, readChecks, editChecks, rectangleAt, cubeBox}
 
 -- the empty table of a layout
 abbrev pub emptyTable : CubeLayout → RegionTable
-emptyTable q = record { layout = q; slots = replicate 16 (record { placed = false; column = 0; row = 0; columns = 0; rows = 0 }) }
+emptyTable q = record { layout = q; slots = replicate 16 (record { placed = false; rectangle = rectangle 0 0 0 0 }) }
 
 -- a slot with a region placed in it
 abbrev pub placedRegion : Rectangle → Region
-placedRegion g = record { placed = true; column = g .column; row = g .row; columns = g .columns; rows = g .rows }
+placedRegion g = record { placed = true; rectangle = g }
 
 -- place
 unfoldable pub placeAnswer : RegionTable → ℕ → Rectangle → Answer
@@ -53,4 +54,4 @@ readElements t n b buffer before =
 unfoldable pub regionPosition : RegionTable → ℕ → ℕ → ℕ → ℕ → Quantity
 regionPosition t n c h w =
     let g = rectangleAt (slotsOf t) n in
-    quantity (inOrder (areaChecks (t .layout) (slotsOf t) n (oneElement c h w))) (elementPosition (t .layout) c (g .row + h) (g .column + w))
+    quantity (inOrder (regionBoxChecks (t .layout) (slotsOf t) n (oneElement c h w))) (elementPosition (t .layout) c (g .row + h) (g .column + w))

@@ -1,5 +1,6 @@
 pub mod Slots
 pub mod Rules
 pub mod Calls
-pub mod Steps
+pub mod Overlaps
 pub mod Reads
+pub mod Steps

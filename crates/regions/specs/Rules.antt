@@ -14,7 +14,8 @@ use Rattle.layout.specs.declared.CubeLayout.{CubeLayout}
 use Rattle.layout.specs.declared.ElementBox.{ElementBox}
 use Rattle.layout.specs.Boxes.{spanInside, boxCount}
 use Rattle.layout.specs.Rules.{layoutChecks, storageChecks}
-use Rattle.regions.specs.Slots.{Rectangle, Slot, empty, filled, overlaps, rectangleInside}
+use Rattle.regions.specs.declared.Rectangle.{Rectangle}
+use Rattle.regions.specs.Slots.{rectangle, Slot, empty, filled, overlaps, rectangleInside}
 
 -- the slot with a number; past the last there is none filled
 unfoldable pub slotAt : List Slot → ℕ → Slot
@@ -26,20 +27,11 @@ isFilled (filled g) = true
 
 -- the rectangle of a filled slot
 unfoldable pub rectangleOf : Slot → Rectangle
-rectangleOf empty = record { column = 0; row = 0; columns = 0; rows = 0 }
+rectangleOf empty = rectangle 0 0 0 0
 rectangleOf (filled g) = g
 
 abbrev pub rectangleAt : List Slot → ℕ → Rectangle
 rectangleAt slots n = rectangleOf (slotAt slots n)
-
--- place: 1 to 4, 8, 9, 10
-unfoldable pub placeChecks : CubeLayout → List Slot → ℕ → Rectangle → List Answer
-placeChecks q slots n g =
-    layoutChecks q
-    ++ (require SlotRefusal (ltb n 16 && not (isFilled (slotAt slots n)))
-    ∷ require Bounds (rectangleInside q g)
-    ∷ require Overlap (not (overlaps slots g))
-    ∷ [])
 
 -- the box, counted from the rectangle's corner, has elements, all of them in the rectangle
 unfoldable pub boxInRectangle : CubeLayout → Rectangle → ElementBox → Bool
@@ -58,17 +50,27 @@ cubeBox g b =
       columns = b .columns;
     }
 
--- 1 to 4, 8, 9: the slot is filled, its rectangle is in the cube, the box is in the rectangle
-unfoldable pub areaChecks : CubeLayout → List Slot → ℕ → ElementBox → List Answer
-areaChecks q slots n b =
+-- place: 1 to 4, 8, 9, 10
+unfoldable pub placeChecks : CubeLayout → List Slot → ℕ → Rectangle → List Answer
+placeChecks q slots n g =
     layoutChecks q
-    ++ (require SlotRefusal (ltb n 16 && isFilled (slotAt slots n))
-    ∷ require Bounds (rectangleInside q (rectangleAt slots n) && boxInRectangle q (rectangleAt slots n) b)
+    ++ (require SlotRefusal (ltb n 16 && not (isFilled (slotAt slots n)))
+    ∷ require Bounds (rectangleInside q g)
+    ∷ require Overlap (not (overlaps slots g))
     ∷ [])
+
+-- a slot that a call goes through: 1 to 4, 8
+unfoldable pub slotChecks : CubeLayout → List Slot → ℕ → List Answer
+slotChecks q slots n = layoutChecks q ++ (require SlotRefusal (ltb n 16 && isFilled (slotAt slots n)) ∷ [])
+
+-- a box in the region of a slot: 1 to 4, 8, 9; its rectangle is in the cube, the box is in the rectangle
+unfoldable pub regionBoxChecks : CubeLayout → List Slot → ℕ → ElementBox → List Answer
+regionBoxChecks q slots n b =
+    slotChecks q slots n ++ (require Bounds (rectangleInside q (rectangleAt slots n)) ∷ require Bounds (boxInRectangle q (rectangleAt slots n) b) ∷ [])
 
 -- read: 1 to 4, 8, 9, 6, 5
 unfoldable pub readChecks : CubeLayout → List Slot → ℕ → ElementBox → ℕ → ℕ → List Answer
-readChecks q slots n b given len = areaChecks q slots n b ++ storageChecks q (boxCount b) given len
+readChecks q slots n b given len = regionBoxChecks q slots n b ++ storageChecks q (boxCount b) given len
 
 -- edit: 1 to 4, 8, 9, 6, 5, 7
 unfoldable pub editChecks : CubeLayout → List Slot → ℕ → ElementBox → List ℤ → ℕ → List Answer

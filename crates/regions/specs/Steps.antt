@@ -3,7 +3,8 @@
 use Prim.Native.Nat.{ℕ, _+_}
 use mathlib.Core.Bool.{Bool, false, _&&_}
 use lib.Dec.{leb, ltb}
-use Rattle.regions.specs.Slots.{Rectangle, Slot, empty, filled}
+use Rattle.regions.specs.declared.Rectangle.{Rectangle}
+use Rattle.regions.specs.Slots.{Slot, empty, filled}
 
 -- the n numbers from a on and the m numbers from b on have one in common
 unfoldable pub spansMeet : ℕ → ℕ → ℕ → ℕ → Bool

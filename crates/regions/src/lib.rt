@@ -4,21 +4,25 @@ mod rules;
 
 ghost use mathlib.Core.Path.{_≡_};
 ghost use lib.ListN.{length};
-ghost use Rattle.regions.specs.Slots.{rectangle};
 ghost use Rattle.regions.specs.Calls.{emptyTable, placeAnswer, placeTable, editAnswer, editBuffer, readAnswer, readElements, regionPosition};
 use layout::CubeLayout;
 use layout::ElementBox;
 use refusal::Answer;
 use refusal::Quantity;
 
-// A slot of the table: whether a region is placed in it, and the region's first column and row, columns and rows. It reaches over all channels
-// (the scope paper's "stall"). The numbers of a slot that is not placed mean nothing.
-pub struct Region {
-    pub placed: bool,
+// A rectangle of a cube's positions: its first column and row, its columns and rows.
+pub struct Rectangle {
     pub column: u32,
     pub row: u32,
     pub columns: u32,
     pub rows: u32,
+}
+
+// A slot of the table: whether a region is placed in it, and the region's rectangle, over all channels (the scope paper's "stall"). The rectangle of
+// a slot that is not placed means nothing.
+pub struct Region {
+    pub placed: bool,
+    pub rectangle: Rectangle,
 }
 
 // A cube's layout and its sixteen slots (the scope paper's "desk").
@@ -37,12 +41,15 @@ pub struct Outcome {
 pub fn empty(layout: CubeLayout) -> RegionTable
     ensures { λ r. ⌜ r ≡ emptyTable layout ⌝ }
 {
-    let none = Region {
-        placed: false,
+    let nowhere = Rectangle {
         column: 0,
         row: 0,
         columns: 0,
         rows: 0,
+    };
+    let none = Region {
+        placed: false,
+        rectangle: nowhere,
     };
     let slots = [none; 16];
     RegionTable {
@@ -52,18 +59,11 @@ pub fn empty(layout: CubeLayout) -> RegionTable
 }
 
 // Places a region in an empty slot.
-pub fn place(
-    table: RegionTable,
-    slot: u32,
-    column: u32,
-    row: u32,
-    columns: u32,
-    rows: u32,
-) -> Outcome
-    ensures answered { λ r. ⌜ r .answer ≡ placeAnswer table slot (rectangle column row columns rows) ⌝ }
-    ensures left { λ r. ⌜ r .table ≡ placeTable table slot (rectangle column row columns rows) ⌝ }
+pub fn place(table: RegionTable, slot: u32, rectangle: Rectangle) -> Outcome
+    ensures answered { λ r. ⌜ r .answer ≡ placeAnswer table slot rectangle ⌝ }
+    ensures left { λ r. ⌜ r .table ≡ placeTable table slot rectangle ⌝ }
 {
-    let a = rules::check_place(table, slot, column, row, columns, rows);
+    let a = rules::check_place(table, slot, rectangle);
     let Answer::Accepted = a else {
         return Outcome {
             answer: a,
@@ -75,10 +75,7 @@ pub fn place(
     let i = slot as usize;
     slots[i] = Region {
         placed: true,
-        column: column,
-        row: row,
-        columns: columns,
-        rows: rows,
+        rectangle: rectangle,
     };
     let after = RegionTable {
         layout: layout,
@@ -94,23 +91,23 @@ pub fn place(
 pub fn edit(
     table: RegionTable,
     slot: u32,
-    area: ElementBox,
+    b: ElementBox,
     elements: &[i16],
     buffer: &mut [u8],
 ) -> Outcome
-    ensures answered { λ r. ⌜ r .answer ≡ editAnswer table slot area (now (elements .entry)) (length (now (buffer .entry))) ⌝ }
+    ensures answered { λ r. ⌜ r .answer ≡ editAnswer table slot b (now (elements .entry)) (length (now (buffer .entry))) ⌝ }
     ensures kept { λ r. ⌜ r .table ≡ table ⌝ }
-    ensures left { λ r. ⌜ now (buffer .exit) ≡ editBuffer table slot area (now (elements .entry)) (now (buffer .entry)) ⌝ }
+    ensures left { λ r. ⌜ now (buffer .exit) ≡ editBuffer table slot b (now (elements .entry)) (now (buffer .entry)) ⌝ }
 {
-    let a = rules::check_area(table, slot, area);
+    let a = rules::check_box(table, slot, b);
     let Answer::Accepted = a else {
         return Outcome {
             answer: a,
             table: table,
         };
     };
-    let moved = rules::cube_box(table, slot, area);
-    let answer = cube::write_box(table.layout, moved, elements, buffer);
+    let target = rules::cube_box(table, slot, b);
+    let answer = cube::write_box(table.layout, target, elements, buffer);
     Outcome {
         answer: answer,
         table: table,
@@ -121,22 +118,22 @@ pub fn edit(
 pub fn read(
     table: RegionTable,
     slot: u32,
-    area: ElementBox,
+    b: ElementBox,
     buffer: &[u8],
     elements: &mut [i16],
 ) -> Outcome
-    ensures answered { λ r. ⌜ r .answer ≡ readAnswer table slot area (length (now (elements .entry))) (length (now (buffer .entry))) ⌝ }
+    ensures answered { λ r. ⌜ r .answer ≡ readAnswer table slot b (length (now (elements .entry))) (length (now (buffer .entry))) ⌝ }
     ensures kept { λ r. ⌜ r .table ≡ table ⌝ }
-    ensures left { λ r. ⌜ now (elements .exit) ≡ readElements table slot area (now (buffer .entry)) (now (elements .entry)) ⌝ }
+    ensures left { λ r. ⌜ now (elements .exit) ≡ readElements table slot b (now (buffer .entry)) (now (elements .entry)) ⌝ }
 {
-    let a = rules::check_area(table, slot, area);
+    let a = rules::check_box(table, slot, b);
     let Answer::Accepted = a else {
         return Outcome {
             answer: a,
             table: table,
         };
     };
-    let source = rules::cube_box(table, slot, area);
+    let source = rules::cube_box(table, slot, b);
     let answer = cube::read_box(table.layout, source, buffer, elements);
     Outcome {
         answer: answer,
@@ -148,7 +145,7 @@ pub fn read(
 pub fn position(table: RegionTable, slot: u32, channel: u32, row: u32, column: u32) -> Quantity
     ensures { λ r. ⌜ r ≡ regionPosition table slot channel row column ⌝ }
 {
-    let area = ElementBox {
+    let one = ElementBox {
         channel: channel,
         row: row,
         column: column,
@@ -156,11 +153,11 @@ pub fn position(table: RegionTable, slot: u32, channel: u32, row: u32, column: u
         rows: 1,
         columns: 1,
     };
-    match rules::check_area(table, slot, area) {
+    match rules::check_box(table, slot, one) {
         Answer::Refused(refusal, at) => Quantity::Denied(refusal, at),
         Answer::Accepted => {
-            let moved = rules::cube_box(table, slot, area);
-            cube::position(table.layout, moved.channel, moved.row, moved.column)
+            let found = rules::cube_box(table, slot, one);
+            cube::position(table.layout, found.channel, found.row, found.column)
         }
     }
 }

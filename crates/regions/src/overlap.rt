@@ -1,8 +1,9 @@
 // The overlap test: a rectangle against each placed one.
 ghost use mathlib.Core.Path.{_≡_};
 ghost use mathlib.Core.List.{map};
-ghost use Rattle.regions.specs.Slots.{rectangle, slotOf, overlaps};
+ghost use Rattle.regions.specs.Slots.{slotOf, overlaps};
 ghost use Rattle.regions.specs.Steps.{spansMeet, slotMeets};
+use crate::Rectangle;
 use crate::Region;
 
 // The n numbers from a on and the m numbers from b on have one in common.
@@ -22,26 +23,31 @@ fn spans_meet(a: u32, n: u32, b: u32, m: u32) -> bool
 }
 
 // The region is placed and has a position in common with a rectangle.
-fn meets(other: Region, column: u32, row: u32, columns: u32, rows: u32) -> bool
-    ensures { λ r. ⌜ r ≡ slotMeets (slotOf other) (rectangle column row columns rows) ⌝ }
+fn meets(other: Region, g: Rectangle) -> bool
+    ensures { λ r. ⌜ r ≡ slotMeets (slotOf other) g ⌝ }
 {
     if !other.placed {
         return false;
     }
-    if !spans_meet(other.column, other.columns, column, columns) {
+    if !spans_meet(
+        other.rectangle.column,
+        other.rectangle.columns,
+        g.column,
+        g.columns,
+    ) {
         return false;
     }
-    spans_meet(other.row, other.rows, row, rows)
+    spans_meet(other.rectangle.row, other.rectangle.rows, g.row, g.rows)
 }
 
 // Some position of a rectangle is in a placed region.
-pub(crate) fn any_meets(slots: [Region; 16], column: u32, row: u32, columns: u32, rows: u32) -> bool
-    ensures { λ r. ⌜ r ≡ overlaps (map slotOf slots) (rectangle column row columns rows) ⌝ }
+pub(crate) fn any_meets(slots: [Region; 16], g: Rectangle) -> bool
+    ensures { λ r. ⌜ r ≡ overlaps (map slotOf slots) g ⌝ }
 {
     let mut i = 0usize;
     while i < 16 {
         let other = slots[i];
-        if meets(other, column, row, columns, rows) {
+        if meets(other, g) {
             return true;
         }
         i += 1;

@@ -4,7 +4,7 @@ use lib.ListN.{length}
 use Rattle.refusal.specs.declared.Answer.the-variants.{Accepted}
 use Rattle.refusal.specs.Checks.{inOrder}
 use Rattle.regions.specs.Slots.{slotsOf}
-use Rattle.regions.specs.Rules.{areaChecks}
+use Rattle.regions.specs.Rules.{regionBoxChecks}
 use Rattle.regions.proofs.CallLaws.{edit-denied, edit-kept, edit-answered, edit-left}
 use borrow.Author.Needs.{needs}
 use Rattle.regions.proofs.edit.Statement.{statement}
@@ -13,11 +13,11 @@ use Rattle.regions.proofs.edit.Tie as tie
 abbrev start : tie.After-enum-told → tie.Start
 start c = c .before .before .before .before
 
-accepted : (c : tie.After-enum-told) → inOrder (areaChecks (start c .args .table .layout) (slotsOf (start c .args .table)) (start c .args .slot) (start c .args .area)) ≡ Accepted
-accepted c = sym (c .before .before .check-area .ensures) ∙ c .enum-told .given .1
+accepted : (c : tie.After-enum-told) → inOrder (regionBoxChecks (start c .args .table .layout) (slotsOf (start c .args .table)) (start c .args .slot) (start c .args .b)) ≡ Accepted
+accepted c = sym (c .before .before .check-box .ensures) ∙ c .enum-told .given .1
 
-check-area-requires : tie.Need-check-area-requires
-check-area-requires c κs = search needs
+check-box-requires : tie.Need-check-box-requires
+check-box-requires c κs = search needs
 
 enum-told : tie.Need-enum-told
 enum-told c = search needs
@@ -28,9 +28,9 @@ enum-told-2 c = search needs
 returns : tie.Need-returns
 returns c = let d = c .before .before in
     let a = d .before .before .args in
-    let no-area = sym (d .check-area .ensures) ∙ c .enum-told2 .given .1 in (
-      c .enum-told2 .given .1 ∙ sym (edit-denied (a .table) (a .slot) (a .area) (a .elements .now) (length (a .buffer .now)) no-area),
-      (refl, edit-kept (a .table) (a .slot) (a .area) (a .elements .now) (a .buffer .now) no-area),
+    let no-box = sym (d .check-box .ensures) ∙ c .enum-told2 .given .1 in (
+      c .enum-told2 .given .1 ∙ sym (edit-denied (a .table) (a .slot) (a .b) (a .elements .now) (length (a .buffer .now)) no-box),
+      (refl, edit-kept (a .table) (a .slot) (a .b) (a .elements .now) (a .buffer .now) no-box),
     )
 
 cube-box-requires : tie.Need-cube-box-requires
@@ -47,15 +47,15 @@ returns-2 c = let f = c .before .before in
     let m = f .before .before in
     let e = m .before in
     let a = start e .args in (
-      f .write-box .ensures .0 ∙ edit-answered (a .table) (a .slot) (a .area) (a .elements .now) (m .cube-box .ensures) (accepted e) (length (a .buffer .now)),
-      (refl, f .write-box .ensures .1 ∙ edit-left (a .table) (a .slot) (a .area) (a .elements .now) (m .cube-box .ensures) (accepted e) (a .buffer .now)),
+      f .write-box .ensures .0 ∙ edit-answered (a .table) (a .slot) (a .b) (a .elements .now) (m .cube-box .ensures) (accepted e) (length (a .buffer .now)),
+      (refl, f .write-box .ensures .1 ∙ edit-left (a .table) (a .slot) (a .b) (a .elements .now) (m .cube-box .ensures) (accepted e) (a .buffer .now)),
     )
 
 pub edit-spec : {M : Type 1} → statement M
 edit-spec =
     tie.close
     (tie.spec
-    check-area-requires
+    check-box-requires
     enum-told
     enum-told-2
     returns

@@ -1,17 +1,13 @@
 -- `regions::place` meets its contract: a refused placing leaves the table, an accepted one sets the slot. Assumes nothing.
 use mathlib.Core.Path.{_≡_, sym, _∙_}
 use Rattle.refusal.specs.declared.Answer.the-variants.{Accepted}
-use Rattle.regions.specs.Slots.{Rectangle, rectangle}
 use Rattle.regions.specs.Calls.{placeAnswer}
 use Rattle.regions.proofs.CallLaws.{place-kept, place-left, place-number}
 use borrow.Author.Needs.{needs}
 use Rattle.regions.proofs.place.Statement.{statement}
 use Rattle.regions.proofs.place.Tie as tie
 
-abbrev asked : tie.Start → Rectangle
-asked c = rectangle (c .args .column) (c .args .row) (c .args .columns) (c .args .rows)
-
-accepted : (c : tie.After-enum-told) → placeAnswer (c .before .before .before .args .table) (c .before .before .before .args .slot) (asked (c .before .before .before)) ≡ Accepted
+accepted : (c : tie.After-enum-told) → placeAnswer (c .before .before .before .args .table) (c .before .before .before .args .slot) (c .before .before .before .args .rectangle) ≡ Accepted
 accepted c = sym (c .before .before .check-place .ensures) ∙ c .enum-told .given .1
 
 check-place-requires : tie.Need-check-place-requires
@@ -26,7 +22,7 @@ enum-told-2 c = search needs
 returns : tie.Need-returns
 returns c = let d = c .before .before in
     let s = d .before in
-    (d .check-place .ensures, place-kept (s .args .table) (s .args .slot) (asked s) (sym (d .check-place .ensures) ∙ c .enum-told2 .given .1))
+    (d .check-place .ensures, place-kept (s .args .table) (s .args .slot) (s .args .rectangle) (sym (d .check-place .ensures) ∙ c .enum-told2 .given .1))
 
 mul-slots : tie.Need-mul-slots
 mul-slots c = search needs
@@ -34,12 +30,12 @@ mul-slots c = search needs
 array-set-from-slots : tie.Need-array-set-from-slots
 array-set-from-slots c = let d = c .before .before in
     let s = d .before .before .before in
-    place-number (s .args .table) (s .args .slot) (asked s) (accepted d)
+    place-number (s .args .table) (s .args .slot) (s .args .rectangle) (accepted d)
 
 returns-2 : tie.Need-returns-2
 returns-2 c = let d = c .before .before in
     let s = d .before .before .before in
-    (d .before .before .check-place .ensures, place-left (s .args .table) (s .args .slot) (asked s) (accepted d))
+    (d .before .before .check-place .ensures, place-left (s .args .table) (s .args .slot) (s .args .rectangle) (accepted d))
 
 pub place-spec : {M : Type 1} → statement M
 place-spec =

@@ -5,18 +5,18 @@ use Rattle.refusal.specs.declared.Answer.the-variants.{Accepted}
 use Rattle.refusal.specs.Checks.{inOrder}
 use Rattle.layout.specs.Boxes.{oneElement}
 use Rattle.regions.specs.Slots.{slotsOf}
-use Rattle.regions.specs.Rules.{areaChecks}
+use Rattle.regions.specs.Rules.{regionBoxChecks}
 use Rattle.regions.proofs.CallLaws.{position-denied, position-is}
 use Rattle.regions.proofs.position.Statement.{statement}
 use Rattle.regions.proofs.position.Tie as tie
 
 accepted : (c : tie.After-enum-told)
     → let a = c .before .before .before .args in
-    inOrder (areaChecks (a .table .layout) (slotsOf (a .table)) (a .slot) (oneElement (a .channel) (a .row) (a .column))) ≡ Accepted
-accepted c = sym (c .before .before .check-area .ensures) ∙ c .enum-told .given .1
+    inOrder (regionBoxChecks (a .table .layout) (slotsOf (a .table)) (a .slot) (oneElement (a .channel) (a .row) (a .column))) ≡ Accepted
+accepted c = sym (c .before .before .check-box .ensures) ∙ c .enum-told .given .1
 
-check-area-requires : tie.Need-check-area-requires
-check-area-requires c κs = search needs
+check-box-requires : tie.Need-check-box-requires
+check-box-requires c κs = search needs
 
 enum-known-refusal : tie.Need-enum-known-refusal
 enum-known-refusal c = search needs
@@ -33,7 +33,7 @@ position-requires c κs = search needs
 returns : tie.Need-returns
 returns c = let d = c .before .before .before in
     let a = d .before .args in
-    position-denied (a .table) (a .slot) (a .channel) (a .row) (a .column) (sym (d .check-area .ensures) ∙ c .before .refusal .given .1)
+    position-denied (a .table) (a .slot) (a .channel) (a .row) (a .column) (sym (d .check-box .ensures) ∙ c .before .refusal .given .1)
 
 returns-2 : tie.Need-returns-2
 returns-2 c = let e = c .before .before in
@@ -44,7 +44,7 @@ pub position-spec : {M : Type 1} → statement M
 position-spec =
     tie.close
     (tie.spec
-    check-area-requires
+    check-box-requires
     enum-known-refusal
     enum-told
     cube-box-requires

@@ -6,25 +6,24 @@ use mathlib.Core.Bool.{false}
 use mathlib.Core.List.{map}
 use lib.ListN.{length, length-map}
 use borrow.Author.Count.{below-none, below-more}
-use Rattle.regions.specs.Slots.{Slot, rectangle, slotOf}
+use Rattle.regions.specs.Slots.{Slot, slotOf}
 use Rattle.regions.specs.Rules.{slotAt}
 use Rattle.regions.specs.Steps.{slotMeets}
-use Rattle.regions.proofs.OverlapLaws.{one-meets, none-meets}
+use Rattle.regions.proofs.MeetLaws.{one-meets, none-meets}
 use Rattle.regions.proofs.StepLaws.{slotAt-region, length-mapped}
 use borrow.Author.Needs.{needs}
 use Rattle.regions.proofs.overlap.any_meets.Statement.{statement}
 use Rattle.regions.proofs.overlap.any_meets.Tie as tie
 
 abbrev Inv-loop : tie.InvT-loop
-Inv-loop column row columns rows slots i₀ i =
-    (k : ℕ) → k < i → slotMeets (slotAt (map slotOf slots) k) (rectangle column row columns rows) ≡ false
+Inv-loop g slots i₀ i = (k : ℕ) → k < i → slotMeets (slotAt (map slotOf slots) k) g ≡ false
 
 abbrev μ-loop : tie.MeasureT-loop
-μ-loop column row columns rows slots i₀ i = 16 - i
+μ-loop g slots i₀ i = 16 - i
 
 loop-holds : tie.Need-loop-holds Inv-loop μ-loop
 loop-holds c = let a = c .args in
-    below-none (λ (k : ℕ). slotMeets (slotAt (map slotOf (a .t1)) k) (rectangle (a .column) (a .row) (a .columns) (a .rows)) ≡ false)
+    below-none (λ (k : ℕ). slotMeets (slotAt (map slotOf (a .t1)) k) (a .g) ≡ false)
 
 mul-other : tie.Need-mul-other Inv-loop μ-loop
 mul-other c = omega arith
@@ -39,7 +38,7 @@ returns : tie.Need-returns Inv-loop μ-loop
 returns c =
     let i = c .before .before .before .before .loop .i in
     let a = c .before .before .before .before .before .args in
-    let g = rectangle (a .column) (a .row) (a .columns) (a .rows) in
+    let g = a .g in
     sym (one-meets (map slotOf (a .t1)) g i (sym (ap (λ (s : Slot). slotMeets s g) (slotAt-region (a .t1) i)) ∙ sym (c .before .meets .ensures) ∙ c .if1 .taken))
 
 add-i : tie.Need-add-i Inv-loop μ-loop
@@ -52,7 +51,7 @@ loop-again : tie.Need-loop-again Inv-loop μ-loop
 loop-again c =
     let i = c .before .before .before .before .loop .i in
     let a = c .before .before .before .before .before .args in
-    let g = rectangle (a .column) (a .row) (a .columns) (a .rows) in
+    let g = a .g in
     below-more (λ (k : ℕ). slotMeets (slotAt (map slotOf (a .t1)) k) g ≡ false) i (c .before .before .before .before .loop .inv)
     (sym (ap (λ (s : Slot). slotMeets s g) (slotAt-region (a .t1) i)) ∙ sym (c .before .meets .ensures) ∙ c .if1 .left)
 
@@ -60,7 +59,7 @@ returns-2 : tie.Need-returns-2 Inv-loop μ-loop
 returns-2 c =
     let a = c .before .before .args in
     let long : length (a .t1) ≡ 16 = search (c .before .before .good, length-mapped) in
-    let g = rectangle (a .column) (a .row) (a .columns) (a .rows) in
+    let g = a .g in
     sym (none-meets (map slotOf (a .t1)) g (λ n h. c .before .loop .inv n (omega (arith, h, long, length-map (a .t1) slotOf, c .loop-test .left))))
 
 pub any-meets-spec : {M : Type 1} → statement M

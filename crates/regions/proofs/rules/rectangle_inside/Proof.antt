@@ -1,8 +1,7 @@
 -- `regions::rules::rectangle_inside` meets its contract: its tests are the definition's. Assumes nothing.
 use mathlib.Core.Path.{sym, _∙_}
 use borrow.Author.Tests.{not-true, not-false}
-use Rattle.regions.specs.Slots.{rectangle}
-use Rattle.regions.proofs.StepLaws.{rectangle-first, rectangle-last}
+use Rattle.regions.specs.Slots.{rectangleInside}
 use borrow.Author.Needs.{needs}
 use Rattle.regions.proofs.rules.rectangle_inside.Statement.{statement}
 use Rattle.regions.proofs.rules.rectangle_inside.Tie as tie
@@ -11,16 +10,15 @@ span-inside-requires : tie.Need-span-inside-requires
 span-inside-requires c κs = search needs
 
 returns : tie.Need-returns
-returns c = let a = c .before .before .args in
-    rectangle-first (a .layout) (rectangle (a .column) (a .row) (a .columns) (a .rows)) (sym (c .before .span-inside .ensures) ∙ not-true _ (c .if1 .taken))
+unfolding rectangleInside
+returns c = rw (sym (c .before .span-inside .ensures) ∙ not-true _ (c .if1 .taken))
 
 span-inside-requires-2 : tie.Need-span-inside-requires-2
 span-inside-requires-2 c κs = search needs
 
 returns-2 : tie.Need-returns-2
-returns-2 c = let a = c .before .before .before .args in
-    c .span-inside2 .ensures
-    ∙ rectangle-last (a .layout) (rectangle (a .column) (a .row) (a .columns) (a .rows)) (sym (c .before .before .span-inside .ensures) ∙ not-false _ (c .before .if1 .left))
+unfolding rectangleInside
+returns-2 c = c .span-inside2 .ensures ∙ rw (sym (c .before .before .span-inside .ensures) ∙ not-false _ (c .before .if1 .left))
 
 pub rectangle-inside-spec : {M : Type 1} → statement M
 rectangle-inside-spec =
