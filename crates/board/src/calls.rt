@@ -8,6 +8,7 @@ use layout::CubeLayout;
 use layout::ElementBox;
 use refusal::Answer;
 use regions::Outcome;
+use regions::Rectangle;
 use regions::RegionTable;
 use weights::WeightLayout;
 
@@ -86,14 +87,13 @@ fn desk(rest: &[u8]) -> Outcome {
 
 // `place`: numbers 0 to 4, `slot w0 h0 w h`.
 fn place(rest: &[u8], table: RegionTable) -> Outcome {
-    regions::place(
-        table,
-        number_at(rest, 0),
-        number_at(rest, 1),
-        number_at(rest, 2),
-        number_at(rest, 3),
-        number_at(rest, 4),
-    )
+    let rectangle = Rectangle {
+        column: number_at(rest, 1),
+        row: number_at(rest, 2),
+        columns: number_at(rest, 3),
+        rows: number_at(rest, 4),
+    };
+    regions::place(table, number_at(rest, 0), rectangle)
 }
 
 // The call that a command names.

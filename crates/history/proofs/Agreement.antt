@@ -23,7 +23,7 @@ use Rattle.regions.specs.declared.RegionTable.{RegionTable}
 use Rattle.regions.specs.Slots.{filled, slotOf, slotsOf}
 use Rattle.regions.specs.Rules.{placeChecks, readChecks, editChecks, rectangleAt, cubeBox}
 use Rattle.regions.specs.Calls.{placedRegion, placeAnswer, placeTable, editAnswer, editBuffer, readAnswer, readElements}
-use Rattle.regions.proofs.RuleLaws.{read-accepted, edit-accepted}
+use Rattle.regions.proofs.CallLaws.{read-accepted, edit-accepted}
 use Rattle.history.specs.Program.{Call, place, edit, read, none, Reply, lends, SixteenBit, State, step}
 use Rattle.history.specs.Model.{boxWritten, boxRead, Plain, plainAnswer, plainStep}
 use Rattle.history.proofs.TensorLaws.{boxWritten-length, packed-boxWritten, Fits, boxWritten-fits, packed-boxRead}
@@ -34,22 +34,24 @@ map-set f [] i y = refl
 map-set f (x ∷ xs) zero y = refl
 map-set {B = B} f (x ∷ xs) (suc i) y = ap (λ (zs : List B). f x ∷ zs) (map-set f xs i y)
 
+leaves-ap : {A B : Type 0} (f : A → B) (a : Answer) (done before : A) → f (leaves a done before) ≡ leaves a (f done) (f before)
+unfolding leaves
+leaves-ap f Accepted done before = refl
+leaves-ap f (Refused r i) done before = refl
+
+leaves-same : {A : Type 0} (a : Answer) (x : A) → leaves a x x ≡ x
+unfolding leaves
+leaves-same Accepted x = refl
+leaves-same (Refused r i) x = refl
+
 module _ (t : RegionTable) (n : ℕ) (g : Rectangle) where
   pub placed-layout : placeTable t n g .layout ≡ t .layout
-  unfolding placeTable leaves
-  placed-layout = go (placeAnswer t n g)
-    where
-      go : (a : Answer) → (leaves a (record { layout = t .layout; slots = set (t .slots) n (placedRegion g) }) t) .layout ≡ t .layout
-      go Accepted = refl
-      go (Refused r i) = refl
+  unfolding placeTable
+  placed-layout = leaves-ap (λ (u : RegionTable). u .layout) (placeAnswer t n g) _ t ∙ leaves-same (placeAnswer t n g) (t .layout)
 
   pub placed-slots : slotsOf (placeTable t n g) ≡ leaves (placeAnswer t n g) (set (slotsOf t) n (filled g)) (slotsOf t)
-  unfolding placeTable leaves slotsOf slotOf
-  placed-slots = go (placeAnswer t n g)
-    where
-      go : (a : Answer) → map slotOf ((leaves a (record { layout = t .layout; slots = set (t .slots) n (placedRegion g) }) t) .slots) ≡ leaves a (set (map slotOf (t .slots)) n (filled g)) (map slotOf (t .slots))
-      go Accepted = map-set slotOf (t .slots) n (placedRegion g)
-      go (Refused r i) = refl
+  unfolding placeTable slotsOf slotOf
+  placed-slots = leaves-ap slotsOf (placeAnswer t n g) _ t ∙ rw (map-set slotOf (t .slots) n (placedRegion g))
 
 -- ---- in step
 module _ (q : CubeLayout) (before : List ℕ) where
@@ -100,39 +102,26 @@ module _ (q : CubeLayout) (before : List ℕ) where
 
     -- ---- an edit
     module _ (n : ℕ) (b : ElementBox) (xs : List ℤ) (sixteen : SixteenBit xs) where
-      -- the model's answer, and its raw tensor after one
-      abbrev answer : Answer
-      answer = inOrder (editChecks q (m .slots) n b xs (length before))
+      -- by the model's answer v: its raw tensor after the edit is as long, fits, and packed it is the buffer after the edit
+      record Written (v : Answer) : Type 0 where
+        count : length (leaves v (boxWritten q (cubeBox (rectangleAt (m .slots) n) b) xs (m .raw)) (m .raw)) ≡ elementCount q
+        fits : Fits q (leaves v (boxWritten q (cubeBox (rectangleAt (m .slots) n) b) xs (m .raw)) (m .raw))
+        bytes : leaves v (edited q (cubeBox (rectangleAt (m .slots) n) b) xs (packed q (m .raw) before)) (packed q (m .raw) before)
+            ≡ packed q (leaves v (boxWritten q (cubeBox (rectangleAt (m .slots) n) b) xs (m .raw)) (m .raw)) before
 
-      abbrev raw-after : Answer → List ℤ
-      raw-after v = leaves v (boxWritten q (cubeBox (rectangleAt (m .slots) n) b) xs (m .raw)) (m .raw)
-
-      edit-bytes : (v : Answer) → answer ≡ v
-          → leaves v (edited q (cubeBox (rectangleAt (m .slots) n) b) xs (packed q (m .raw) before)) (packed q (m .raw) before) ≡ packed q (raw-after v) before
+      edit-cases : (v : Answer) → inOrder (editChecks q (m .slots) n b xs (length before)) ≡ v → Written v
       unfolding leaves
-      edit-bytes Accepted e =
-          let d = edit-accepted q (m .slots) n b xs (length before) e .admitted in
-          sym (packed-boxWritten q (cubeBox (rectangleAt (m .slots) n) b) xs (m .raw) (a .count) (d .layout) before)
-      edit-bytes (Refused r i) e = refl
-
-      edit-count : (v : Answer) → length (raw-after v) ≡ elementCount q
-      unfolding leaves
-      edit-count Accepted = boxWritten-length q (cubeBox (rectangleAt (m .slots) n) b) xs (m .raw) ∙ a .count
-      edit-count (Refused r i) = a .count
-
-      xs-fit : answer ≡ Accepted → Fits q xs
-      xs-fit e =
+      edit-cases Accepted e =
+          let box = cubeBox (rectangleAt (m .slots) n) b in
+          let v = edit-accepted q (m .slots) n b xs (length before) e in
+          let d = v .reads .admitted in
+          let own : Fits q xs = record { fit = λ i h. valueTaken-fits (q .precision) (getD xs i (pos 0)) (valueChecks-taken (q .precision) xs (v .values) i h) (sixteen .each i) } in
           record {
-            fit = λ i h.
-                valueTaken-fits (q .precision) (getD xs i (pos 0)) (valueChecks-taken (q .precision) xs (edit-accepted q (m .slots) n b xs (length before) e .values) i h) (sixteen .each i);
+            count = boxWritten-length q box xs (m .raw) ∙ a .count;
+            fits = boxWritten-fits q box xs (m .raw) (d .count) own (a .fits);
+            bytes = sym (packed-boxWritten q box xs (m .raw) (a .count) (d .layout) before);
           }
-
-      edit-fits : (v : Answer) → answer ≡ v → Fits q (raw-after v)
-      unfolding leaves
-      edit-fits Accepted e =
-          let d = edit-accepted q (m .slots) n b xs (length before) e .admitted in
-          boxWritten-fits q (cubeBox (rectangleAt (m .slots) n) b) xs (m .raw) (d .count) (xs-fit e) (a .fits)
-      edit-fits (Refused r i) e = a .fits
+      edit-cases (Refused r i) e = record { count = a .count; fits = a .fits; bytes = refl }
 
     pub agrees-after : (c : Call) → SixteenBit (lends c) → Agrees (step s c .state) (plainStep q (length before) m c .state)
     unfolding step plainStep plainAnswer lends editBuffer
@@ -145,11 +134,12 @@ module _ (q : CubeLayout) (before : List ℕ) where
           bytes = a .bytes;
         }
     agrees-after (edit n b xs) sixteen =
+        let w = edit-cases n b xs sixteen _ refl in
         record {
           layout = a .layout;
           slots = a .slots;
-          count = edit-count n b xs sixteen _;
-          fits = edit-fits n b xs sixteen _ refl;
-          bytes = rw (same-edit n b xs, a .slots, a .layout, a .bytes) (edit-bytes n b xs sixteen _ refl);
+          count = w .count;
+          fits = w .fits;
+          bytes = rw (same-edit n b xs, a .slots, a .layout, a .bytes) (w .bytes);
         }
     agrees-after (read n b xs) sixteen = a

@@ -1,7 +1,7 @@
 -- At every moment of a list the placed regions are inside the cube and share no position, so they share no byte. By induction on the list. Assumes
 -- nothing.
 --     Apart, apart-empty, apart-run     the placed regions of a table, at every moment
---     layout-run                        the layout stays
+--     layout-at, apart-at               the layout and the regions at a moment
 --     no-shared-byte                    two placed regions share no byte
 use Prim.Native.Nat.{ℕ, _+_, _≤_, _<_}
 use native.Mathlib.Omega.{arith}
@@ -11,6 +11,7 @@ use mathlib.Core.Logic.{_≢_, _⊎_, inl, inr, ⊎-elim}
 use mathlib.Core.Bool.{true}
 use mathlib.Core.List.{List, [], _∷_}
 use lib.ListN.{length, getD, set, replicate, getD-replicate, length-replicate, List·getD-eq-default}
+use lib.IntN.{ℤ}
 use lib.Seq.{getD-set-same, getD-set-other, set-out}
 use Rattle.refusal.specs.declared.Answer.{Answer}
 use Rattle.refusal.specs.declared.Answer.the-variants.{Accepted, Refused}
@@ -22,12 +23,12 @@ use Rattle.layout.proofs.BoxLaws.{InCube}
 use Rattle.layout.proofs.Places.{element-own}
 use Rattle.regions.specs.declared.Rectangle.{Rectangle}
 use Rattle.regions.specs.declared.RegionTable.{RegionTable}
-use Rattle.regions.specs.Slots.{Slot, empty, filled, slotOf, slotsOf, emptySlots, rectangleInside}
+use Rattle.regions.specs.Slots.{Slot, empty, filled, slotOf, slotsOf, emptySlots, rectangleHas, rectangleInside}
 use Rattle.regions.specs.Rules.{slotAt, placeChecks}
 use Rattle.regions.specs.Calls.{emptyTable, placeAnswer, placeTable}
 use Rattle.regions.proofs.RuleLaws.{Placing, place-accepted, rectangle-columns, rectangle-rows}
-use Rattle.regions.proofs.OverlapLaws.{InRectangle, overlaps-apart}
-use Rattle.history.specs.Program.{Call, place, edit, read, State, step, runTo}
+use Rattle.regions.proofs.OverlapLaws.{InRectangle, has-in, overlaps-apart}
+use Rattle.history.specs.Program.{Call, place, edit, read, State, beginning, step, runTo, moment, slotsAt}
 use Rattle.history.proofs.Agreement.{placed-layout, placed-slots}
 
 -- the placed rectangles are in the cube, and no two have a position in common
@@ -41,7 +42,7 @@ unfolding slotAt emptySlots
 slot-empty n =
     elim (decLt n 16) [ yes h ↦ getD-replicate 16 n empty empty h | no f ↦ List·getD-eq-default (replicate 16 empty) empty (subst (λ (k : ℕ). k ≤ n) (sym (length-replicate 16 empty)) (omega arith)) ]
 
-pub apart-empty : (q p : CubeLayout) → Apart q (slotsOf (emptyTable p))
+apart-empty : (q p : CubeLayout) → Apart q (slotsOf (emptyTable p))
 unfolding slotsOf slotOf emptySlots
 apart-empty q p =
     record {
@@ -91,7 +92,7 @@ apart-after s (place n g) a = apart-place (s .table) n g a
 apart-after s (edit n b xs) a = a
 apart-after s (read n b xs) a = a
 
-pub apart-run : (s : State) (calls : List Call) → Apart (s .table .layout) (slotsOf (s .table)) → Apart (runTo s calls .table .layout) (slotsOf (runTo s calls .table))
+apart-run : (s : State) (calls : List Call) → Apart (s .table .layout) (slotsOf (s .table)) → Apart (runTo s calls .table .layout) (slotsOf (runTo s calls .table))
 unfolding runTo
 apart-run s [] a = a
 apart-run s (c ∷ calls) a = apart-run (step s c .state) calls (apart-after s c a)
@@ -103,10 +104,18 @@ layout-after s (place n g) = placed-layout (s .table) n g
 layout-after s (edit n b xs) = refl
 layout-after s (read n b xs) = refl
 
-pub layout-run : (s : State) (calls : List Call) → runTo s calls .table .layout ≡ s .table .layout
+layout-run : (s : State) (calls : List Call) → runTo s calls .table .layout ≡ s .table .layout
 unfolding runTo
 layout-run s [] = refl
 layout-run s (c ∷ calls) = layout-run (step s c .state) calls ∙ layout-after s c
+
+module _ (q : CubeLayout) (raw : List ℤ) (before : List ℕ) (calls : List Call) where
+  pub layout-at : moment q raw before calls .table .layout ≡ q
+  layout-at = layout-run (beginning q raw before .state) calls
+
+  pub apart-at : Apart q (slotsAt q raw before calls)
+  apart-at =
+      subst (λ (x : CubeLayout). Apart x (slotsAt q raw before calls)) layout-at (apart-run (beginning q raw before .state) calls (apart-empty q q))
 
 -- ---- no shared byte
 module _ (q : CubeLayout) (ok : Taken q) (slots : List Slot) (a : Apart q slots) where
@@ -118,8 +127,10 @@ module _ (q : CubeLayout) (ok : Taken q) (slots : List Slot) (a : Apart q slots)
       record { channel-lt = hc; row-lt = omega (arith, i .row-lt, rs .fit); column-lt = omega (arith, i .column-lt, cs .fit) }
 
   pub no-shared-byte : (n m : ℕ) → n ≢ m → (f g : Rectangle) → slotAt slots n ≡ filled f → slotAt slots m ≡ filled g
-      → (c h w b c′ h′ w′ b′ : ℕ) → c < q .channels → InRectangle f w h → b < sizeOf q → c′ < q .channels → InRectangle g w′ h′ → b′ < sizeOf q
+      → (c h w b c′ h′ w′ b′ : ℕ) → c < q .channels → rectangleHas f w h ≡ true → b < sizeOf q → c′ < q .channels → rectangleHas g w′ h′ ≡ true → b′ < sizeOf q
       → elementPosition q c h w + b ≡ elementPosition q c′ h′ w′ + b′ → ⊥
-  no-shared-byte n m d f g ef eg c h w b c′ h′ w′ b′ hc i hb hc′ i′ hb′ e =
+  no-shared-byte n m d f g ef eg c h w b c′ h′ w′ b′ hc has hb hc′ has′ hb′ e =
+      let i = has-in f w h has in
+      let i′ = has-in g w′ h′ has′ in
       let same = element-own q ok c h w b c′ h′ w′ b′ (region-cube n f ef c h w hc i) (region-cube m g eg c′ h′ w′ hc′ i′) hb hb′ e in
       a .apart n m d f g ef eg w h i (subst (λ (x : ℕ). InRectangle g x h) (sym (same .2)) (subst (λ (x : ℕ). InRectangle g w′ x) (sym (same .1)) i′))

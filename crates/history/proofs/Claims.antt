@@ -13,6 +13,7 @@ use Rattle.layout.specs.declared.CubeLayout.{CubeLayout}
 use Rattle.layout.specs.declared.ElementBox.{ElementBox}
 use Rattle.layout.specs.Geometry.{sizeOf, elementPosition}
 use Rattle.layout.specs.Calls.{packAnswer}
+use Rattle.layout.proofs.CallLaws.{pack-admitted}
 use Rattle.regions.specs.declared.Rectangle.{Rectangle}
 use Rattle.regions.specs.declared.RegionTable.{RegionTable}
 use Rattle.regions.specs.Slots.{filled, rectangleHas}
@@ -23,7 +24,8 @@ use Rattle.regions.proofs.ReadLaws as reads
 use Rattle.history.specs.Program.{Call, edit, read, SixteenBit, LendsSixteenBit, beginning, step, program, moment, slotsAt, writesElement}
 use Rattle.history.specs.Model.{model, modelTo, shown, given}
 use Rattle.history.proofs.Simulation as simulation
-use Rattle.history.proofs.Moments as moments
+use Rattle.history.proofs.Apart as apart
+use Rattle.history.proofs.Separation as separation
 
 module _ (q : CubeLayout) (raw : List ℤ) (before : List ℕ) (accepted : packAnswer q raw (length before) ≡ Accepted) where
   module _ (sixteen : SixteenBit raw) (calls : List Call) (lent : LendsSixteenBit calls) where
@@ -45,21 +47,20 @@ module _ (q : CubeLayout) (raw : List ℤ) (before : List ℕ) (accepted : packA
       → slotAt (slotsAt q raw before calls) n ≡ filled f → slotAt (slotsAt q raw before calls) m ≡ filled g
       → (c h w k c′ h′ w′ k′ : ℕ) → c < q .channels → rectangleHas f w h ≡ true → k < sizeOf q → c′ < q .channels → rectangleHas g w′ h′ ≡ true → k′ < sizeOf q
       → elementPosition q c h w + k ≡ elementPosition q c′ h′ w′ + k′ → ⊥
-  regions-apart calls = moments.regions-apart q raw before calls accepted
+  regions-apart calls = apart.no-shared-byte q (pack-admitted q raw (length before) accepted .layout) (slotsAt q raw before calls) (apart.apart-at q raw before calls)
 
 module _ (q : CubeLayout) (raw : List ℤ) (before : List ℕ) (calls : List Call) where
   -- at every moment a call changes only bytes of the elements that it names to be written: an edit those of its box, a placing and a read none
   pub edit-changes : (call : Call) (p : ℕ)
       → ((c h w k : ℕ) → writesElement (slotsAt q raw before calls) call c h w ≡ true → k < sizeOf q → p ≡ elementPosition q c h w + k → ⊥)
       → getD (step (moment q raw before calls) call .state .buffer) p 0 ≡ getD (moment q raw before calls .buffer) p 0
-  edit-changes = moments.edit-changes q raw before calls
+  edit-changes = separation.call-changes q (moment q raw before calls) (apart.layout-at q raw before calls)
 
   -- at every moment, whatever an edit through one region writes, a read through another replies and gives the same just before it and just after
   pub read-undisturbed : (n m : ℕ) → n ≢ m → (b : ElementBox) (xs : List ℤ) (b′ : ElementBox) (ys : List ℤ)
       → (step (step (moment q raw before calls) (edit n b xs) .state) (read m b′ ys) .reply ≡ step (moment q raw before calls) (read m b′ ys) .reply)
       × (step (step (moment q raw before calls) (edit n b xs) .state) (read m b′ ys) .elements ≡ step (moment q raw before calls) (read m b′ ys) .elements)
-  read-undisturbed n m d b xs b′ ys =
-      (moments.reply-undisturbed q raw before calls n m d b xs b′ ys, moments.elements-undisturbed q raw before calls n m d b xs b′ ys)
+  read-undisturbed = separation.read-undisturbed q (moment q raw before calls) (apart.layout-at q raw before calls) (apart.apart-at q raw before calls)
 
 -- what a read depends on: two reads of any two tables that agree on it answer the same and, accepted, give the same elements
 pub read-depends : (n : ℕ) (b : ElementBox) (t t′ : RegionTable) (buffer buffer′ : List ℕ) (xs xs′ : List ℤ) → SameRead n b t t′ buffer buffer′ xs xs′

@@ -6,7 +6,6 @@
 --     Simulation     program and model in step over every list
 --     Apart          placed regions share no byte, at every moment
 --     Separation     what an edit changes, and what it leaves to others
---     Moments        from one call to every list
 --     Claims         the statements
 pub mod Computed
 pub mod StepLaws
@@ -15,5 +14,4 @@ pub mod Agreement
 pub mod Simulation
 pub mod Apart
 pub mod Separation
-pub mod Moments
 pub mod Claims

@@ -1,10 +1,10 @@
 -- What an edit changes, and that a read through another region is undisturbed by it: what an edit through one region writes is no byte of another.
 -- By cases on the two answers. Assumes nothing.
 --     call-changes                      a call changes only bytes of the elements that it names to be written
---     answer-kept, elements-kept        a read through another region answers and gives the same before and after an edit
+--     read-undisturbed                  a read through another region replies and gives the same before and after an edit
 use Prim.Native.Nat.{ℕ, _+_, _<_}
 use native.Mathlib.Omega.{arith}
-use mathlib.Core.Path.{_≡_, refl, sym, ap, _∙_}
+use mathlib.Core.Path.{_≡_, refl, sym, ap, _∙_, subst}
 use mathlib.Core.Logic.{_≢_}
 use mathlib.Core.Bool.{true}
 use mathlib.Core.List.{List}
@@ -26,10 +26,11 @@ use Rattle.regions.specs.Slots.{Slot, slotsOf}
 use Rattle.regions.specs.Rules.{rectangleAt, cubeBox, editChecks}
 use Rattle.regions.specs.Calls.{editAnswer, editBuffer, readAnswer, readElements}
 use Rattle.regions.specs.Reads.{SameRead}
-use Rattle.regions.proofs.RuleLaws.{ValidBox, read-accepted, edit-accepted}
+use Rattle.regions.proofs.RuleLaws.{ValidBox}
+use Rattle.regions.proofs.CallLaws.{read-accepted, edit-accepted}
 use Rattle.regions.proofs.ReadLaws.{same-elements}
-use Rattle.regions.proofs.OverlapLaws.{InRectangle}
-use Rattle.history.specs.Program.{Call, place, edit, read, State, step, writesElement}
+use Rattle.regions.proofs.OverlapLaws.{InRectangle, in-has}
+use Rattle.history.specs.Program.{Call, place, edit, read, none, State, step, writesElement}
 use Rattle.history.proofs.Apart.{Apart, no-shared-byte}
 
 -- ---- what an edit changes
@@ -40,7 +41,7 @@ module _ (t : RegionTable) (n : ℕ) (b : ElementBox) (xs : List ℤ) (buf : Lis
   unfolding leaves
   edit-cases Accepted e p f =
       let v = edit-accepted (t .layout) (slotsOf t) n b xs (length buf) e in
-      edited-kept (t .layout) (cubeBox (rectangleAt (slotsOf t) n) b) xs buf (v .admitted .layout) p f
+      edited-kept (t .layout) (cubeBox (rectangleAt (slotsOf t) n) b) xs buf (v .reads .admitted .layout) p f
   edit-cases (Refused r i) e p f = refl
 
   pub edit-names : (p : ℕ) → ((c h w k : ℕ) → InBox (cubeBox (rectangleAt (slotsOf t) n) b) c h w → k < sizeOf (t .layout) → p ≡ elementPosition (t .layout) c h w + k → ⊥)
@@ -61,14 +62,16 @@ module _ (t : RegionTable) (n : ℕ) (b : ElementBox) (xs : List ℤ) (buf : Lis
   unfolding editBuffer
   edit-length = edit-long (editAnswer t n b xs (length buf))
 
-pub call-changes : (s : State) (call : Call) (p : ℕ)
-    → ((c h w k : ℕ) → writesElement (slotsOf (s .table)) call c h w ≡ true → k < sizeOf (s .table .layout) → p ≡ elementPosition (s .table .layout) c h w + k → ⊥)
+pub call-changes : (q : CubeLayout) (s : State) → s .table .layout ≡ q → (call : Call) (p : ℕ)
+    → ((c h w k : ℕ) → writesElement (slotsOf (s .table)) call c h w ≡ true → k < sizeOf q → p ≡ elementPosition q c h w + k → ⊥)
     → getD (step s call .state .buffer) p 0 ≡ getD (s .buffer) p 0
 unfolding step writesElement
-call-changes s (place n g) p f = refl
-call-changes s (edit n b xs) p f =
-    edit-names (s .table) n b xs (s .buffer) p (λ c h w k i. f c h w k (in-boxHas (cubeBox (rectangleAt (slotsOf (s .table)) n) b) c h w i))
-call-changes s (read n b xs) p f = refl
+call-changes q s same (place n g) p f = refl
+call-changes q s same (edit n b xs) p f =
+    edit-names (s .table) n b xs (s .buffer) p
+    (λ c h w k i hk e.
+    f c h w k (in-boxHas (cubeBox (rectangleAt (slotsOf (s .table)) n) b) c h w i) (subst (λ (x : CubeLayout). k < sizeOf x) same hk) (subst (λ (x : CubeLayout). p ≡ elementPosition x c h w + k) same e))
+call-changes q s same (read n b xs) p f = refl
 
 -- ---- a read through another region
 in-rectangle : (q : CubeLayout) (slots : List Slot) (n : ℕ) (b : ElementBox) → ValidBox q slots n b → (c h w : ℕ) → InBox (cubeBox (rectangleAt slots n) b) c h w
@@ -82,7 +85,7 @@ in-rectangle q slots n b v c h w i =
     }
 
 module _ (t : RegionTable) (a : Apart (t .layout) (slotsOf t)) (n m : ℕ) (d : n ≢ m) (b : ElementBox) (xs : List ℤ) (b′ : ElementBox) (ys : List ℤ) (buf : List ℕ) where
-  pub answer-kept : readAnswer t m b′ (length ys) (length (editBuffer t n b xs buf)) ≡ readAnswer t m b′ (length ys) (length buf)
+  answer-kept : readAnswer t m b′ (length ys) (length (editBuffer t n b xs buf)) ≡ readAnswer t m b′ (length ys) (length buf)
   answer-kept = ap (λ (k : ℕ). readAnswer t m b′ (length ys) k) (edit-length t n b xs buf)
 
   -- an element of an accepted read's box keeps its bytes
@@ -94,15 +97,15 @@ module _ (t : RegionTable) (a : Apart (t .layout) (slotsOf t)) (n m : ℕ) (d : 
       let q = t .layout in
       let slots = slotsOf t in
       let mine = read-accepted q slots m b′ (length ys) (length buf) r .region in
-      let theirs = edit-accepted q slots n b xs (length buf) e .region in
+      let theirs = edit-accepted q slots n b xs (length buf) e .reads .region in
       edit-names t n b xs buf (elementPosition q c h w + k)
       (λ c′ h′ w′ k′ i′ hk′ s.
       no-shared-byte q (mine .slot .layout) slots a m n (λ z. d (sym z)) (rectangleAt slots m) (rectangleAt slots n) (mine .slot .placed) (theirs .slot .placed) c h w k c′ h′ w′ k′
       (in-cube q (cubeBox (rectangleAt slots m) b′) c h w (mine .box) i .channel-lt)
-      (in-rectangle q slots m b′ mine c h w i)
+      (in-has (rectangleAt slots m) w h (in-rectangle q slots m b′ mine c h w i))
       hk
       (in-cube q (cubeBox (rectangleAt slots n) b) c′ h′ w′ (theirs .box) i′ .channel-lt)
-      (in-rectangle q slots n b theirs c′ h′ w′ i′)
+      (in-has (rectangleAt slots n) w′ h′ (in-rectangle q slots n b theirs c′ h′ w′ i′))
       hk′
       s)
   bytes-kept r (Refused x j) e c h w k i hk = ap (λ (l : List ℕ). getD l (elementPosition (t .layout) c h w + k) 0) (edit-refused t n b xs buf e)
@@ -117,10 +120,17 @@ module _ (t : RegionTable) (a : Apart (t .layout) (slotsOf t)) (n m : ℕ) (d : 
         bytes = λ c h w k i hk. sym (bytes-kept r (editAnswer t n b xs (length buf)) refl c h w k (boxHas-in (cubeBox (rectangleAt (slotsOf t) m) b′) c h w i) hk);
       }
 
-  pub elements-kept : readElements t m b′ (editBuffer t n b xs buf) ys ≡ readElements t m b′ buf ys
+  elements-kept : readElements t m b′ (editBuffer t n b xs buf) ys ≡ readElements t m b′ buf ys
   unfolding readElements
   elements-kept = go (readAnswer t m b′ (length ys) (length buf)) refl
     where
       go : (v : Answer) → readAnswer t m b′ (length ys) (length buf) ≡ v → readElements t m b′ (editBuffer t n b xs buf) ys ≡ readElements t m b′ buf ys
       go Accepted r = sym (same-elements m b′ t t buf (editBuffer t n b xs buf) ys ys (same-read r) r)
       go (Refused x i) r = leaves-before _ ys (answer-kept ∙ r) ∙ sym (leaves-before _ ys r)
+
+pub read-undisturbed : (q : CubeLayout) (s : State) → s .table .layout ≡ q → Apart q (slotsOf (s .table)) → (n m : ℕ) → n ≢ m → (b : ElementBox) (xs : List ℤ) (b′ : ElementBox) (ys : List ℤ)
+    → (step (step s (edit n b xs) .state) (read m b′ ys) .reply ≡ step s (read m b′ ys) .reply) × (step (step s (edit n b xs) .state) (read m b′ ys) .elements ≡ step s (read m b′ ys) .elements)
+unfolding step
+read-undisturbed q s same a n m d b xs b′ ys =
+    let apart = subst (λ (x : CubeLayout). Apart x (slotsOf (s .table))) (sym same) a in
+    (ap (λ (x : Answer). record { answer = x; value = none }) (answer-kept (s .table) apart n m d b xs b′ ys (s .buffer)), elements-kept (s .table) apart n m d b xs b′ ys (s .buffer))

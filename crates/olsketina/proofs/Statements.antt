@@ -16,7 +16,7 @@ use Rattle.refusal.specs.Checks.{leaves}
 use Rattle.elements.proofs.TabulateLaws.{length-tabulate}
 use Rattle.regions.specs.declared.Region.{Region}
 use Rattle.regions.specs.declared.RegionTable.{RegionTable}
-use Rattle.regions.specs.Slots.{Rectangle}
+use Rattle.regions.specs.declared.Rectangle.{Rectangle}
 use Rattle.regions.specs.Calls.{placeAnswer, placeTable, placedRegion}
 use Rattle.regions.proofs.CallLaws.{place-kept, place-left}
 use Rattle.lut.specs.declared.Counters.{Counters}

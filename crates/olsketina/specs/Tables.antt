@@ -10,6 +10,7 @@ use Rattle.layout.specs.declared.CubeLayout.{CubeLayout}
 use Rattle.layout.specs.Geometry.{layoutOf}
 use Rattle.regions.specs.declared.Region.{Region}
 use Rattle.regions.specs.declared.RegionTable.{RegionTable}
+use Rattle.regions.specs.Slots.{rectangle}
 use Rattle.olsketina.specs.Words.{word}
 
 -- ---- the table that words say
@@ -25,7 +26,7 @@ says w = not (eqb w 0)
 -- the slot of the five words from `at` on
 unfoldable pub regionAt : List ℕ → ℕ → Region
 regionAt l at =
-    record { placed = says (word l at); column = word l (at + 1); row = word l (at + 2); columns = word l (at + 3); rows = word l (at + 4) }
+    record { placed = says (word l at); rectangle = rectangle (word l (at + 1)) (word l (at + 2)) (word l (at + 3)) (word l (at + 4)) }
 
 -- sixteen slots
 unfoldable pub slotsAt : List ℕ → ℕ → List Region
@@ -53,7 +54,7 @@ layoutWords q = q .width ∷ q .height ∷ q .channels ∷ q .precision ∷ q .l
 
 -- a slot's five words, over an old first one
 unfoldable pub regionWords : Region → ℕ → List ℕ
-regionWords g old = flagWord (g .placed) old ∷ g .column ∷ g .row ∷ g .columns ∷ g .rows ∷ []
+regionWords g old = flagWord (g .placed) old ∷ g .rectangle .column ∷ g .rectangle .row ∷ g .rectangle .columns ∷ g .rectangle .rows ∷ []
 
 unfoldable pub withLayout : CubeLayout → ℕ → List ℕ → List ℕ
 withLayout q at l = withWords (layoutWords q) at 0 l
@@ -63,7 +64,7 @@ withRegion g at l = withWords (regionWords g (word l at)) at 0 l
 
 -- an empty slot
 abbrev pub noRegion : Region
-noRegion = record { placed = false; column = 0; row = 0; columns = 0; rows = 0 }
+noRegion = record { placed = false; rectangle = rectangle 0 0 0 0 }
 
 -- the words of the first n slots stored from `at` on
 unfoldable pub withRegions : List Region → ℕ → ℕ → List ℕ → List ℕ

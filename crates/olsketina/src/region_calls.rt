@@ -10,6 +10,7 @@ ghost use Rattle.olsketina.specs.Tables.{tableAt, withTable};
 use crate::answers;
 use crate::tables;
 use crate::words;
+use regions::Rectangle;
 
 // regions::empty
 #[no_mangle]
@@ -35,7 +36,13 @@ pub extern "C" fn olsketina_regions_place(
     ensures left { λ r. ⌜ now (table .exit) ≡ leaves (placeAnswer (tableAt (now (table .entry)) 0) slot (rectangle column row columns rows)) (withTable (placeTable (tableAt (now (table .entry)) 0) slot (rectangle column row columns rows)) 0 (now (table .entry))) (now (table .entry)) ⌝ }
 {
     let before = tables::table_at(table, 0);
-    let o = regions::place(before, slot, column, row, columns, rows);
+    let rectangle = Rectangle {
+        column: column,
+        row: row,
+        columns: columns,
+        rows: rows,
+    };
+    let o = regions::place(before, slot, rectangle);
     let answer = o.answer;
     let after = o.table;
     tables::keep_table(table, answer, after);

@@ -6,6 +6,7 @@ ghost use Rattle.refusal.specs.Checks.{leaves};
 ghost use Rattle.olsketina.specs.Tables.{layoutAt, regionAt, slotsAt, tableAt, flagWord, withLayout, withRegion, withRegions, withTable};
 use layout::CubeLayout;
 use refusal::Answer;
+use regions::Rectangle;
 use regions::Region;
 use regions::RegionTable;
 
@@ -30,12 +31,15 @@ fn region_at(words: &[u32], at: usize) -> Region
     requires { ⌜ at + 5 ≤ length (now words) ⌝ }
     ensures { λ r. ⌜ r ≡ regionAt (now (words .entry)) at ⌝ }
 {
-    Region {
-        placed: words[at] != 0,
+    let rectangle = Rectangle {
         column: words[at + 1],
         row: words[at + 2],
         columns: words[at + 3],
         rows: words[at + 4],
+    };
+    Region {
+        placed: words[at] != 0,
+        rectangle: rectangle,
     }
 }
 
@@ -44,12 +48,15 @@ fn slots_at(words: &[u32], at: usize) -> [Region; 16]
     requires { ⌜ at + 80 ≤ length (now words) ⌝ }
     ensures { λ r. ⌜ r ≡ slotsAt (now (words .entry)) at ⌝ }
 {
-    let none = Region {
-        placed: false,
+    let nowhere = Rectangle {
         column: 0,
         row: 0,
         columns: 0,
         rows: 0,
+    };
+    let none = Region {
+        placed: false,
+        rectangle: nowhere,
     };
     let mut slots = [none; 16];
     let mut i: usize = 0;
@@ -104,10 +111,10 @@ fn put_region(words: &mut [u32], at: usize, region: Region)
 {
     let old = words[at];
     words[at] = flag_word(region.placed, old);
-    words[at + 1] = region.column;
-    words[at + 2] = region.row;
-    words[at + 3] = region.columns;
-    words[at + 4] = region.rows;
+    words[at + 1] = region.rectangle.column;
+    words[at + 2] = region.rectangle.row;
+    words[at + 3] = region.rectangle.columns;
+    words[at + 4] = region.rectangle.rows;
 }
 
 // Stores the words of sixteen slots.

@@ -1,104 +1,103 @@
--- The calls in terms of what they call: a refused call leaves everything; past check 9 an edit is a write, and a read a read, of the cube's box.
+-- The calls in terms of what they call: past check 9 an edit is a write, and a read a read, of the cube's box, since its own checks 1 to 4, 9 pass.
 -- Assumes nothing.
---     edit-denied, edit-kept, edit-answered, edit-left     an edit refused by 1 to 4, 8 or 9, and one past them
---     read-denied, read-kept, read-answered, read-left     the same of a read
---     place-number, place-kept, place-left                 a placing accepted, and refused
---     position-denied, position-is                         a position refused, and given
-use Prim.Native.Nat.{ℕ, _+_, _<_}
+--     box-passes, after-9                     the checks of the cube's box pass, and the same follow
+--     read-accepted, edit-accepted            what an accepted read or edit tells
+--     edit-answered, edit-left                an edit past check 9
+--     read-answered, read-left                a read past it
+--     place-kept, place-left                  a placing refused, and accepted
+--     position-is                             a position given
+use Prim.Native.Nat.{ℕ, _+_}
 use mathlib.Core.Path.{_≡_, sym, ap, _∙_}
-use mathlib.Core.List.{List}
+use mathlib.Core.List.{List, _++_, append-assoc}
 use lib.ListN.{length, set}
 use lib.IntN.{ℤ}
 use Rattle.refusal.specs.declared.Answer.{Answer}
 use Rattle.refusal.specs.declared.Answer.the-variants.{Accepted, Refused}
 use Rattle.refusal.specs.declared.Refusal.{Refusal}
-use Rattle.refusal.specs.declared.Quantity.the-variants.{Denied}
-use Rattle.refusal.specs.Checks.{inOrder, leaves}
-use Rattle.refusal.proofs.CheckLaws.{inOrder-refused, leaves-done, leaves-before, quantity-is, quantity-denied}
+use Rattle.refusal.specs.Checks.{inOrder}
+use Rattle.refusal.proofs.CheckLaws.{inOrder-front, inOrder-back, inOrder-passed, leaves-done, leaves-before, quantity-is}
 use Rattle.elements.specs.Values.{valueChecks}
+use Rattle.layout.specs.declared.CubeLayout.{CubeLayout}
 use Rattle.layout.specs.declared.ElementBox.{ElementBox}
 use Rattle.layout.specs.Boxes.{oneElement, boxCount}
 use Rattle.layout.specs.Geometry.{elementPosition}
-use Rattle.layout.specs.Rules.{storageChecks}
-use Rattle.layout.specs.Contents.{edited, boxElements}
+use Rattle.layout.specs.Rules.{boxChecks, storageChecks, admitChecks}
 use Rattle.layout.specs.Calls.{writeBoxAnswer, writeBoxBuffer, readBoxAnswer, readBoxElements, positionQuantity}
+use Rattle.layout.proofs.BoxLaws.{taken-box}
+use Rattle.layout.proofs.CallLaws as layout
 use Rattle.regions.specs.declared.Rectangle.{Rectangle}
 use Rattle.regions.specs.declared.RegionTable.{RegionTable}
-use Rattle.regions.specs.Slots.{slotsOf}
+use Rattle.regions.specs.Slots.{Slot, slotsOf}
 use Rattle.regions.specs.Rules.{rectangleAt, cubeBox, regionBoxChecks, readChecks, editChecks}
 use Rattle.regions.specs.Calls.{placedRegion, placeAnswer, placeTable, editAnswer, editBuffer, readAnswer, readElements, regionPosition}
-use Rattle.regions.proofs.RuleLaws.{box-passes, read-box, edit-box, place-accepted}
+use Rattle.regions.proofs.RuleLaws.{ValidBox, box-accepted}
 
-module _ (t : RegionTable) (n : ℕ) (b : ElementBox) where
-  -- ---- edit
+-- an accepted read: its box is valid, and the cube's box is admitted
+pub record ValidRead (q : CubeLayout) (slots : List Slot) (n : ℕ) (b : ElementBox) (given len : ℕ) : Type 0 where
+  pub region : ValidBox q slots n b
+  pub admitted : layout.Admitted q (cubeBox (rectangleAt slots n) b) given len
+
+-- an accepted edit: also its elements fit
+pub record ValidEdit (q : CubeLayout) (slots : List Slot) (n : ℕ) (b : ElementBox) (xs : List ℤ) (len : ℕ) : Type 0 where
+  pub reads : ValidRead q slots n b (length xs) len
+  pub values : inOrder (valueChecks (q .precision) xs) ≡ Accepted
+
+module _ (q : CubeLayout) (slots : List Slot) (n : ℕ) (b : ElementBox) where
+  box-passes : inOrder (regionBoxChecks q slots n b) ≡ Accepted → inOrder (boxChecks q (cubeBox (rectangleAt slots n) b)) ≡ Accepted
+  box-passes ok =
+      let v = box-accepted q slots n b ok in
+      sym (layout.box-accepted q (cubeBox (rectangleAt slots n) b) (v .slot .checked) (taken-box q (cubeBox (rectangleAt slots n) b) (v .box)))
+
+  after-9 : (rest : List Answer) → inOrder (regionBoxChecks q slots n b) ≡ Accepted
+      → inOrder (boxChecks q (cubeBox (rectangleAt slots n) b) ++ rest) ≡ inOrder (regionBoxChecks q slots n b ++ rest)
+  after-9 rest ok = inOrder-passed _ rest (box-passes ok) ∙ sym (inOrder-passed _ rest ok)
+
+  pub read-accepted : (given len : ℕ) → inOrder (readChecks q slots n b given len) ≡ Accepted → ValidRead q slots n b given len
+  unfolding readChecks admitChecks boxCount
+  read-accepted given len e =
+      let ok = inOrder-front (regionBoxChecks q slots n b) _ e in
+      record { region = box-accepted q slots n b ok; admitted = layout.admitted q (cubeBox (rectangleAt slots n) b) given len (after-9 _ ok ∙ e) }
+
+  pub edit-accepted : (xs : List ℤ) (len : ℕ) → inOrder (editChecks q slots n b xs len) ≡ Accepted → ValidEdit q slots n b xs len
+  unfolding editChecks readChecks
+  edit-accepted xs len e =
+      let ok = inOrder-front (regionBoxChecks q slots n b) _ e in
+      let rest = inOrder-back (regionBoxChecks q slots n b) _ e in
+      let storage = storageChecks q (boxCount b) (length xs) len in
+      record { reads = read-accepted (length xs) len (inOrder-passed _ storage ok ∙ inOrder-front storage _ rest); values = inOrder-back storage _ rest }
+
+-- ---- edit and read
+module _ (t : RegionTable) (n : ℕ) (b : ElementBox) {box : ElementBox} (moved : box ≡ cubeBox (rectangleAt (slotsOf t) n) b) (ok : inOrder (regionBoxChecks (t .layout) (slotsOf t) n b) ≡ Accepted) where
   module _ (xs : List ℤ) where
-    pub edit-denied : (len : ℕ) {r : Refusal} {i : ℕ} → inOrder (regionBoxChecks (t .layout) (slotsOf t) n b) ≡ Refused r i → editAnswer t n b xs len ≡ Refused r i
-    unfolding editAnswer editChecks readChecks
-    edit-denied len e =
-        inOrder-refused (readChecks (t .layout) (slotsOf t) n b (length xs) len) (valueChecks (t .layout .precision) xs)
-        (inOrder-refused (regionBoxChecks (t .layout) (slotsOf t) n b) (storageChecks (t .layout) (boxCount b) (length xs) len) e)
+    pub edit-answered : (len : ℕ) → writeBoxAnswer (t .layout) box xs len ≡ editAnswer t n b xs len
+    unfolding writeBoxAnswer admitChecks editAnswer editChecks boxCount
+    edit-answered len = rw moved (ap inOrder (append-assoc (boxChecks (t .layout) (cubeBox (rectangleAt (slotsOf t) n) b)) _ _) ∙ after-9 (t .layout) (slotsOf t) n b _ ok)
 
-    pub edit-kept : (before : List ℕ) {r : Refusal} {i : ℕ} → inOrder (regionBoxChecks (t .layout) (slotsOf t) n b) ≡ Refused r i → before ≡ editBuffer t n b xs before
-    unfolding editBuffer
-    edit-kept before e = sym (leaves-before _ before (edit-denied (length before) e))
+    pub edit-left : (before : List ℕ) → writeBoxBuffer (t .layout) box xs before ≡ editBuffer t n b xs before
+    unfolding writeBoxBuffer editBuffer
+    edit-left before = rw (edit-answered (length before), moved)
 
-    module _ {box : ElementBox} (moved : box ≡ cubeBox (rectangleAt (slotsOf t) n) b) (ok : inOrder (regionBoxChecks (t .layout) (slotsOf t) n b) ≡ Accepted) where
-      pub edit-answered : (len : ℕ) → writeBoxAnswer (t .layout) box xs len ≡ editAnswer t n b xs len
-      unfolding editAnswer
-      edit-answered len = ap (λ (x : ElementBox). writeBoxAnswer (t .layout) x xs len) moved ∙ edit-box (t .layout) (slotsOf t) n b xs len ok
+  pub read-answered : (given len : ℕ) → readBoxAnswer (t .layout) box given len ≡ readAnswer t n b given len
+  unfolding readBoxAnswer admitChecks readAnswer readChecks boxCount
+  read-answered given len = rw moved (after-9 (t .layout) (slotsOf t) n b _ ok)
 
-      pub edit-left : (before : List ℕ) → writeBoxBuffer (t .layout) box xs before ≡ editBuffer t n b xs before
-      unfolding writeBoxBuffer editBuffer
-      edit-left before =
-          ap (λ (a : Answer). leaves a (edited (t .layout) box xs before) before) (edit-answered (length before))
-          ∙ ap (λ (x : ElementBox). leaves (editAnswer t n b xs (length before)) (edited (t .layout) x xs before) before) moved
-
-  -- ---- read
-  pub read-denied : (given len : ℕ) {r : Refusal} {i : ℕ} → inOrder (regionBoxChecks (t .layout) (slotsOf t) n b) ≡ Refused r i → readAnswer t n b given len ≡ Refused r i
-  unfolding readAnswer readChecks
-  read-denied given len e = inOrder-refused (regionBoxChecks (t .layout) (slotsOf t) n b) (storageChecks (t .layout) (boxCount b) given len) e
-
-  module _ (buffer : List ℕ) (before : List ℤ) where
-    pub read-kept : {r : Refusal} {i : ℕ} → inOrder (regionBoxChecks (t .layout) (slotsOf t) n b) ≡ Refused r i → before ≡ readElements t n b buffer before
-    unfolding readElements
-    read-kept e = sym (leaves-before _ before (read-denied (length before) (length buffer) e))
-
-  module _ {box : ElementBox} (moved : box ≡ cubeBox (rectangleAt (slotsOf t) n) b) (ok : inOrder (regionBoxChecks (t .layout) (slotsOf t) n b) ≡ Accepted) where
-    pub read-answered : (given len : ℕ) → readBoxAnswer (t .layout) box given len ≡ readAnswer t n b given len
-    unfolding readAnswer
-    read-answered given len = ap (λ (x : ElementBox). readBoxAnswer (t .layout) x given len) moved ∙ read-box (t .layout) (slotsOf t) n b given len ok
-
-    pub read-left : (buffer : List ℕ) (before : List ℤ) → readBoxElements (t .layout) box buffer before ≡ readElements t n b buffer before
-    unfolding readBoxElements readElements
-    read-left buffer before =
-        ap (λ (a : Answer). leaves a (boxElements (t .layout) box buffer) before) (read-answered (length before) (length buffer))
-        ∙ ap (λ (x : ElementBox). leaves (readAnswer t n b (length before) (length buffer)) (boxElements (t .layout) x buffer) before) moved
+  pub read-left : (buffer : List ℕ) (before : List ℤ) → readBoxElements (t .layout) box buffer before ≡ readElements t n b buffer before
+  unfolding readBoxElements readElements
+  read-left buffer before = rw (read-answered (length before) (length buffer), moved)
 
 -- ---- place
 module _ (t : RegionTable) (n : ℕ) (g : Rectangle) where
-  pub place-number : placeAnswer t n g ≡ Accepted → n < 16
-  unfolding placeAnswer
-  place-number e = place-accepted (t .layout) (slotsOf t) n g e .number
-
   pub place-kept : {r : Refusal} {i : ℕ} → placeAnswer t n g ≡ Refused r i → t ≡ placeTable t n g
   unfolding placeTable
   place-kept e = sym (leaves-before _ t e)
 
   pub place-left : placeAnswer t n g ≡ Accepted → record { layout = t .layout; slots = set (t .slots) n (placedRegion g) } ≡ placeTable t n g
   unfolding placeTable
-  place-left e = sym (leaves-done (record { layout = t .layout; slots = set (t .slots) n (placedRegion g) }) t e)
+  place-left e = sym (leaves-done _ t e)
 
 -- ---- position
-module _ (t : RegionTable) (n c h w : ℕ) where
-  pub position-denied : {r : Refusal} {i : ℕ} → inOrder (regionBoxChecks (t .layout) (slotsOf t) n (oneElement c h w)) ≡ Refused r i → Denied r i ≡ regionPosition t n c h w
-  unfolding regionPosition
-  position-denied e = sym (quantity-denied _ e)
-
-  pub position-is : {box : ElementBox} → box ≡ cubeBox (rectangleAt (slotsOf t) n) (oneElement c h w)
-      → inOrder (regionBoxChecks (t .layout) (slotsOf t) n (oneElement c h w)) ≡ Accepted
-      → positionQuantity (t .layout) (box .channel) (box .row) (box .column) ≡ regionPosition t n c h w
-  unfolding regionPosition positionQuantity
-  position-is moved ok =
-      rw moved
-      (quantity-is (elementPosition (t .layout) c (rectangleAt (slotsOf t) n .row + h) (rectangleAt (slotsOf t) n .column + w)) (box-passes (t .layout) (slotsOf t) n (oneElement c h w) ok)
-      ∙ sym (quantity-is (elementPosition (t .layout) c (rectangleAt (slotsOf t) n .row + h) (rectangleAt (slotsOf t) n .column + w)) ok))
+pub position-is : (t : RegionTable) (n c h w : ℕ) {box : ElementBox} → box ≡ cubeBox (rectangleAt (slotsOf t) n) (oneElement c h w)
+    → inOrder (regionBoxChecks (t .layout) (slotsOf t) n (oneElement c h w)) ≡ Accepted
+    → positionQuantity (t .layout) (box .channel) (box .row) (box .column) ≡ regionPosition t n c h w
+unfolding regionPosition positionQuantity
+position-is t n c h w moved ok = rw moved (quantity-is _ (box-passes (t .layout) (slotsOf t) n (oneElement c h w) ok) ∙ sym (quantity-is _ ok))

@@ -27,7 +27,7 @@ use Rattle.regions.specs.Slots.{Slot, slotsOf, rectangleInside}
 use Rattle.regions.specs.Rules.{slotAt, isFilled, rectangleOf, rectangleAt, boxInRectangle, cubeBox, slotChecks, regionBoxChecks, readChecks}
 use Rattle.regions.specs.Calls.{readAnswer, readElements}
 use Rattle.regions.specs.Reads.{SameRead}
-use Rattle.regions.proofs.RuleLaws.{read-accepted}
+use Rattle.regions.proofs.CallLaws.{read-accepted}
 
 -- ---- the elements of a box, from its elements' bytes alone
 

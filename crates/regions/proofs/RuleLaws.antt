@@ -1,40 +1,31 @@
--- The orders of checks: what an accepted call tells, and that the checks which writing or reading the cube's box repeats never refuse. By taking
--- the lists of checks apart. Assumes nothing.
+-- What accepted checks of a placing, a slot and a box in a region tell. By taking the lists of checks apart. Assumes nothing.
 --     inOrder-all, requireAt-held          every check of an accepted list held
 --     rectangle-columns, rectangle-rows    the spans of a rectangle in the cube
 --     Placing, place-accepted              what an accepted placing tells
 --     ValidSlot, slot-accepted             what accepted checks 1 to 4, 8 tell
 --     ValidBox, box-accepted               what accepted checks 1 to 4, 8, 9 tell
---     read-box, edit-box                   after 9 a call answers as reading or writing the cube's box does
---     ValidRead, read-accepted             what an accepted read tells
---     ValidEdit, edit-accepted             what an accepted edit tells
 use Prim.Native.Nat.{ℕ, _+_, _<_}
 use native.Mathlib.Omega.{arith}
-use mathlib.Core.Path.{_≡_, refl, sym, ap, _∙_}
+use mathlib.Core.Path.{_≡_, refl}
 use mathlib.Core.Bool.{Bool, true, false, not, _&&_}
 use mathlib.Core.List.{List, [], _∷_}
-use lib.ListN.{length}
-use lib.IntN.{ℤ}
 use lib.Dec.{ltb}
 use borrow.Author.Tests.{ltb-true, not-true}
 use Rattle.refusal.specs.declared.Answer.{Answer}
 use Rattle.refusal.specs.declared.Answer.the-variants.{Accepted, Refused}
 use Rattle.refusal.specs.declared.Refusal.{Refusal}
 use Rattle.refusal.specs.Checks.{requireAt, inOrder}
-use Rattle.refusal.proofs.CheckLaws.{inOrder-front, inOrder-back, inOrder-passed, inOrder-same}
+use Rattle.refusal.proofs.CheckLaws.{inOrder-front, inOrder-back}
 use Rattle.refusal.proofs.TestLaws.{and-left, and-right}
-use Rattle.elements.specs.Values.{valueChecks}
 use Rattle.layout.specs.declared.CubeLayout.{CubeLayout}
 use Rattle.layout.specs.declared.ElementBox.{ElementBox}
-use Rattle.layout.specs.Boxes.{spanInside, boxCount}
-use Rattle.layout.specs.Rules.{layoutChecks, boxChecks, storageChecks, admitChecks}
-use Rattle.layout.specs.Calls.{readBoxAnswer, writeBoxAnswer}
+use Rattle.layout.specs.Boxes.{spanInside}
+use Rattle.layout.specs.Rules.{layoutChecks}
 use Rattle.layout.proofs.Taken.{Taken, taken}
-use Rattle.layout.proofs.BoxLaws.{Span, span-inside, BoxTaken, taken-box}
-use Rattle.layout.proofs.CallLaws as calls
+use Rattle.layout.proofs.BoxLaws.{Span, span-inside, BoxTaken}
 use Rattle.regions.specs.declared.Rectangle.{Rectangle}
 use Rattle.regions.specs.Slots.{Slot, empty, filled, rectangleInside, overlaps}
-use Rattle.regions.specs.Rules.{slotAt, isFilled, rectangleOf, rectangleAt, placeChecks, boxInRectangle, cubeBox, slotChecks, regionBoxChecks, readChecks, editChecks}
+use Rattle.regions.specs.Rules.{slotAt, isFilled, rectangleOf, rectangleAt, placeChecks, boxInRectangle, cubeBox, slotChecks, regionBoxChecks}
 
 -- ---- every check of an accepted list held
 unfoldable pub Held : List Answer → Type 0
@@ -65,10 +56,6 @@ module _ (q : CubeLayout) (g : Rectangle) where
 -- a span of a span
 inner : (a n s b m : ℕ) → Span a n s → Span b m n → Span (a + b) m s
 inner a n s b m o i = record { some = i .some; fit = omega (arith, o .fit, i .fit) }
-
-cube-count : (g : Rectangle) (b : ElementBox) → boxCount (cubeBox g b) ≡ boxCount b
-unfolding boxCount
-cube-count g b = refl
 
 filled-slot : (s : Slot) → isFilled s ≡ true → s ≡ filled (rectangleOf s)
 unfolding isFilled rectangleOf
@@ -128,77 +115,25 @@ pub record ValidBox (q : CubeLayout) (slots : List Slot) (n : ℕ) (b : ElementB
   pub columns : Span (b .column) (b .columns) (rectangleAt slots n .columns)
   pub box : BoxTaken q (cubeBox (rectangleAt slots n) b)
 
-module _ (q : CubeLayout) (slots : List Slot) (n : ℕ) (b : ElementBox) where
-  pub box-accepted : inOrder (regionBoxChecks q slots n b) ≡ Accepted → ValidBox q slots n b
-  unfolding regionBoxChecks boxInRectangle Held
-  box-accepted e =
-      let g = rectangleAt slots n in
-      let held = inOrder-all _ (inOrder-back (slotChecks q slots n) _ e) in
-      let inside = requireAt-held _ _ _ (held .0) in
-      let within = requireAt-held _ _ _ (held .1 .0) in
-      let first = and-left (spanInside (b .channel) (b .channels) (q .channels) && spanInside (b .row) (b .rows) (g .rows)) _ within in
-      let rows = span-inside (b .row) (b .rows) (g .rows) (and-right (spanInside (b .channel) (b .channels) (q .channels)) _ first) in
-      let columns = span-inside (b .column) (b .columns) (g .columns) (and-right (spanInside (b .channel) (b .channels) (q .channels) && spanInside (b .row) (b .rows) (g .rows)) _ within) in
-      record {
-        slot = slot-accepted q slots n (inOrder-front (slotChecks q slots n) _ e);
-        inside = inside;
-        rows = rows;
-        columns = columns;
-        box =
-            record {
-              channels = span-inside (b .channel) (b .channels) (q .channels) (and-left _ (spanInside (b .row) (b .rows) (g .rows)) first);
-              rows = inner (g .row) (g .rows) (q .height) (b .row) (b .rows) (rectangle-rows q g inside) rows;
-              columns = inner (g .column) (g .columns) (q .width) (b .column) (b .columns) (rectangle-columns q g inside) columns;
-            };
-      }
-
-  -- checks 1 to 4, 9 of the cube's box pass
-  pub box-passes : inOrder (regionBoxChecks q slots n b) ≡ Accepted → inOrder (boxChecks q (cubeBox (rectangleAt slots n) b)) ≡ Accepted
-  box-passes e =
-      let box = cubeBox (rectangleAt slots n) b in
-      let v = box-accepted e in
-      sym (calls.box-accepted q box (v .slot .checked) (taken-box q box (v .box)))
-
--- ---- read: 6 and 5 after them
-pub record ValidRead (q : CubeLayout) (slots : List Slot) (n : ℕ) (b : ElementBox) (given len : ℕ) : Type 0 where
-  pub region : ValidBox q slots n b
-  pub admitted : calls.Admitted q (cubeBox (rectangleAt slots n) b) given len
-
-module _ (q : CubeLayout) (slots : List Slot) (n : ℕ) (b : ElementBox) (given len : ℕ) where
-  -- the cube's box is admitted exactly as the rest of the checks answer
-  admit-same : inOrder (regionBoxChecks q slots n b) ≡ Accepted → inOrder (admitChecks q (cubeBox (rectangleAt slots n) b) given len) ≡ inOrder (readChecks q slots n b given len)
-  unfolding readChecks admitChecks
-  admit-same ok =
-      let box = cubeBox (rectangleAt slots n) b in
-      inOrder-passed (boxChecks q box) (storageChecks q (boxCount box) given len) (box-passes q slots n b ok)
-      ∙ ap (λ (k : ℕ). inOrder (storageChecks q k given len)) (cube-count (rectangleAt slots n) b)
-      ∙ sym (inOrder-passed (regionBoxChecks q slots n b) (storageChecks q (boxCount b) given len) ok)
-
-  pub read-box : inOrder (regionBoxChecks q slots n b) ≡ Accepted → readBoxAnswer q (cubeBox (rectangleAt slots n) b) given len ≡ inOrder (readChecks q slots n b given len)
-  unfolding readBoxAnswer
-  read-box ok = admit-same ok
-
-  pub read-accepted : inOrder (readChecks q slots n b given len) ≡ Accepted → ValidRead q slots n b given len
-  unfolding readChecks
-  read-accepted e =
-      let ok = inOrder-front (regionBoxChecks q slots n b) _ e in
-      record { region = box-accepted q slots n b ok; admitted = calls.admitted q (cubeBox (rectangleAt slots n) b) given len (admit-same ok ∙ e) }
-
--- ---- edit: 7 after them
-pub record ValidEdit (q : CubeLayout) (slots : List Slot) (n : ℕ) (b : ElementBox) (xs : List ℤ) (len : ℕ) : Type 0 where
-  pub region : ValidBox q slots n b
-  pub admitted : calls.Admitted q (cubeBox (rectangleAt slots n) b) (length xs) len
-  pub values : inOrder (valueChecks (q .precision) xs) ≡ Accepted
-
-module _ (q : CubeLayout) (slots : List Slot) (n : ℕ) (b : ElementBox) (xs : List ℤ) (len : ℕ) where
-  pub edit-box : inOrder (regionBoxChecks q slots n b) ≡ Accepted → writeBoxAnswer q (cubeBox (rectangleAt slots n) b) xs len ≡ inOrder (editChecks q slots n b xs len)
-  unfolding writeBoxAnswer editChecks
-  edit-box ok =
-      inOrder-same (admitChecks q (cubeBox (rectangleAt slots n) b) (length xs) len) (readChecks q slots n b (length xs) len) (valueChecks (q .precision) xs)
-      (inOrder (readChecks q slots n b (length xs) len)) (admit-same q slots n b (length xs) len ok) refl
-
-  pub edit-accepted : inOrder (editChecks q slots n b xs len) ≡ Accepted → ValidEdit q slots n b xs len
-  unfolding editChecks
-  edit-accepted e =
-      let r = read-accepted q slots n b (length xs) len (inOrder-front (readChecks q slots n b (length xs) len) _ e) in
-      record { region = r .region; admitted = r .admitted; values = inOrder-back (readChecks q slots n b (length xs) len) _ e }
+pub box-accepted : (q : CubeLayout) (slots : List Slot) (n : ℕ) (b : ElementBox) → inOrder (regionBoxChecks q slots n b) ≡ Accepted → ValidBox q slots n b
+unfolding regionBoxChecks boxInRectangle Held
+box-accepted q slots n b e =
+    let g = rectangleAt slots n in
+    let held = inOrder-all _ (inOrder-back (slotChecks q slots n) _ e) in
+    let inside = requireAt-held _ _ _ (held .0) in
+    let within = requireAt-held _ _ _ (held .1 .0) in
+    let first = and-left (spanInside (b .channel) (b .channels) (q .channels) && spanInside (b .row) (b .rows) (g .rows)) _ within in
+    let rows = span-inside (b .row) (b .rows) (g .rows) (and-right (spanInside (b .channel) (b .channels) (q .channels)) _ first) in
+    let columns = span-inside (b .column) (b .columns) (g .columns) (and-right (spanInside (b .channel) (b .channels) (q .channels) && spanInside (b .row) (b .rows) (g .rows)) _ within) in
+    record {
+      slot = slot-accepted q slots n (inOrder-front (slotChecks q slots n) _ e);
+      inside = inside;
+      rows = rows;
+      columns = columns;
+      box =
+          record {
+            channels = span-inside (b .channel) (b .channels) (q .channels) (and-left _ (spanInside (b .row) (b .rows) (g .rows)) first);
+            rows = inner (g .row) (g .rows) (q .height) (b .row) (b .rows) (rectangle-rows q g inside) rows;
+            columns = inner (g .column) (g .columns) (q .width) (b .column) (b .columns) (rectangle-columns q g inside) columns;
+          };
+    }

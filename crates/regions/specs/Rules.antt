@@ -74,4 +74,5 @@ readChecks q slots n b given len = regionBoxChecks q slots n b ++ storageChecks 
 
 -- edit: 1 to 4, 8, 9, 6, 5, 7
 unfoldable pub editChecks : CubeLayout → List Slot → ℕ → ElementBox → List ℤ → ℕ → List Answer
-editChecks q slots n b elements len = readChecks q slots n b (length elements) len ++ valueChecks (q .precision) elements
+editChecks q slots n b elements len =
+    regionBoxChecks q slots n b ++ (storageChecks q (boxCount b) (length elements) len ++ valueChecks (q .precision) elements)

@@ -9,8 +9,8 @@ use Rattle.layout.specs.Geometry.{surfaces, elementPosition, cubeExtent}
 use Rattle.layout.specs.Boxes.{spanInside, spanHas}
 use Rattle.refusal.specs.Sizes.{sizeTaken}
 use Rattle.layout.specs.Rules.{sizesTaken, wholeAtoms, stridesTaken, layoutChecks}
-use Rattle.regions.specs.Slots.{slotOf, slotsOf, rectangleHas, taken, anyFrom, overlaps, rectangleInside}
-use Rattle.regions.specs.Rules.{slotAt, isFilled, rectangleOf, placeChecks, boxInRectangle, areaChecks}
+use Rattle.regions.specs.Slots.{slotOf, slotsOf, rectangleHas, occupied, anyFrom, overlaps, rectangleInside}
+use Rattle.regions.specs.Rules.{slotAt, isFilled, rectangleOf, placeChecks, boxInRectangle, slotChecks, regionBoxChecks}
 use Rattle.regions.specs.Calls.{placeAnswer, placeTable}
 use Rattle.records.specs.Texts.{before, split, fieldsOf, withoutEmptyLast, linesOf, isDigit, allDigits, valueAfter as digitsAfter, isEmpty, wellBegun, numberOf}
 use Rattle.records.specs.Records.{andNumber, numbersOf, sameText, frameWord, stallWord, cellWord, shaped, byWord, byFields, recordOf}
@@ -76,5 +76,5 @@ pub record Computed : Type 0 where
   pub none : printed [] ≡ []
 
 pub computed : Computed
-unfolding requireAt inOrder leaves elementBytes surfaces elementPosition cubeExtent spanInside spanHas sizeTaken sizesTaken wholeAtoms stridesTaken layoutChecks slotOf slotsOf rectangleHas taken anyFrom overlaps rectangleInside slotAt isFilled rectangleOf placeChecks boxInRectangle areaChecks placeAnswer placeTable before split fieldsOf withoutEmptyLast linesOf isDigit allDigits digitsAfter isEmpty wellBegun numberOf andNumber numbersOf sameText shaped byWord byFields recordOf framedOr recordAnswer recordValue recordDone valueAfter deskAfter nextLine rowOf rowsAfter sheet startSheet deskOf longer kept withByte lineRecord lineEnded lineRow fedFrom fed finished andThen partRows rowsOfParts
-computed = record { session = refl; ended = refl; refused = refl; emptied = refl; parts = refl; corner = refl; none = refl }
+unfolding requireAt inOrder leaves elementBytes surfaces elementPosition cubeExtent spanInside spanHas sizeTaken sizesTaken wholeAtoms stridesTaken layoutChecks slotOf slotsOf rectangleHas occupied anyFrom overlaps rectangleInside slotAt isFilled rectangleOf placeChecks boxInRectangle slotChecks regionBoxChecks placeAnswer placeTable before split fieldsOf withoutEmptyLast linesOf isDigit allDigits digitsAfter isEmpty wellBegun numberOf andNumber numbersOf sameText shaped byWord byFields recordOf framedOr recordAnswer recordValue recordDone valueAfter deskAfter nextLine rowOf rowsAfter sheet startSheet deskOf longer kept withByte lineRecord lineEnded lineRow fedFrom fed finished andThen partRows rowsOfParts
+computed = record { session = refl; ended = refl; refused = refl; emptied = refl; parts = refl; none = refl }

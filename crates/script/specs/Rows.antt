@@ -10,7 +10,7 @@ use Rattle.layout.specs.Boxes.{oneElement}
 use Rattle.layout.specs.Rules.{layoutChecks}
 use Rattle.regions.specs.declared.RegionTable.{RegionTable}
 use Rattle.regions.specs.Slots.{rectangle, slotsOf}
-use Rattle.regions.specs.Rules.{rectangleAt, areaChecks}
+use Rattle.regions.specs.Rules.{rectangleAt, regionBoxChecks}
 use Rattle.regions.specs.Calls.{emptyTable, placeAnswer, placeTable}
 use Rattle.records.specs.declared.Record.{Record}
 use Rattle.records.specs.declared.Record.the-variants.{Frame, Stall, Cell, Unreadable}
@@ -32,7 +32,7 @@ framedOr d a = cond (d .framed) a (Refused Size 0)
 unfoldable pub recordAnswer : Desk → Record → Answer
 recordAnswer d (Frame w h c p line surface start) = inOrder (layoutChecks (layoutOf w h c p line surface start))
 recordAnswer d (Stall slot w0 h0 w h) = framedOr d (placeAnswer (d .table) slot (rectangle w0 h0 w h))
-recordAnswer d (Cell slot c h w) = framedOr d (inOrder (areaChecks (d .table .layout) (slotsOf (d .table)) slot (oneElement c h w)))
+recordAnswer d (Cell slot c h w) = framedOr d (inOrder (regionBoxChecks (d .table .layout) (slotsOf (d .table)) slot (oneElement c h w)))
 recordAnswer d Unreadable = Refused ScriptLine 0
 
 -- extent, cell count of the stall, byte position

@@ -12,6 +12,7 @@ use records::Record;
 use refusal::Answer;
 use refusal::Quantity;
 use refusal::Refusal;
+use regions::Rectangle;
 use regions::RegionTable;
 
 // A refusal: its value is 0, and the desk stays.
@@ -74,7 +75,13 @@ fn stall(
     if !framed {
         return refused(framed, table, Refusal::Size, 0);
     }
-    let placed = regions::place(table, slot, column, row, columns, rows);
+    let rectangle = Rectangle {
+        column: column,
+        row: row,
+        columns: columns,
+        rows: rows,
+    };
+    let placed = regions::place(table, slot, rectangle);
     let answer = placed.answer;
     let after = placed.table;
     match answer {

@@ -14,6 +14,7 @@ use crate::line::held;
 use crate::print::print_answer;
 use refusal::Answer;
 use regions::Outcome;
+use regions::Rectangle;
 use regions::Region;
 use regions::RegionTable;
 
@@ -46,14 +47,13 @@ fn begin(case: &[u8], elements: &[i16], buffer: &mut [u8]) -> Outcome {
 
 // Op 21: places the region of numbers 2 to 5.
 fn place(case: &[u8], table: RegionTable) -> Outcome {
-    regions::place(
-        table,
-        field(case, 1),
-        field(case, 2),
-        field(case, 3),
-        field(case, 4),
-        field(case, 5),
-    )
+    let rectangle = Rectangle {
+        column: field(case, 2),
+        row: field(case, 3),
+        columns: field(case, 4),
+        rows: field(case, 5),
+    };
+    regions::place(table, field(case, 1), rectangle)
 }
 
 // Op 24: the table with numbers 2 to 6 put in the slot by hand; a slot above 15 changes nothing.
@@ -62,12 +62,15 @@ fn with_slot(case: &[u8], table: RegionTable) -> RegionTable {
     let layout = table.layout;
     let mut slots = table.slots;
     if i < 16 {
-        slots[i] = Region {
-            placed: field(case, 2) != 0,
+        let rectangle = Rectangle {
             column: field(case, 3),
             row: field(case, 4),
             columns: field(case, 5),
             rows: field(case, 6),
+        };
+        slots[i] = Region {
+            placed: field(case, 2) != 0,
+            rectangle: rectangle,
         };
     }
     RegionTable {

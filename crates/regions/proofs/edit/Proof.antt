@@ -3,9 +3,11 @@ use mathlib.Core.Path.{_≡_, refl, sym, _∙_}
 use lib.ListN.{length}
 use Rattle.refusal.specs.declared.Answer.the-variants.{Accepted}
 use Rattle.refusal.specs.Checks.{inOrder}
+use Rattle.refusal.proofs.CheckLaws.{inOrder-refused, leaves-before}
 use Rattle.regions.specs.Slots.{slotsOf}
-use Rattle.regions.specs.Rules.{regionBoxChecks}
-use Rattle.regions.proofs.CallLaws.{edit-denied, edit-kept, edit-answered, edit-left}
+use Rattle.regions.specs.Rules.{regionBoxChecks, editChecks}
+use Rattle.regions.specs.Calls.{editAnswer, editBuffer}
+use Rattle.regions.proofs.CallLaws.{edit-answered, edit-left}
 use borrow.Author.Needs.{needs}
 use Rattle.regions.proofs.edit.Statement.{statement}
 use Rattle.regions.proofs.edit.Tie as tie
@@ -26,12 +28,11 @@ enum-told-2 : tie.Need-enum-told-2
 enum-told-2 c = search needs
 
 returns : tie.Need-returns
+unfolding editAnswer editChecks editBuffer
 returns c = let d = c .before .before in
     let a = d .before .before .args in
-    let no-box = sym (d .check-box .ensures) ∙ c .enum-told2 .given .1 in (
-      c .enum-told2 .given .1 ∙ sym (edit-denied (a .table) (a .slot) (a .b) (a .elements .now) (length (a .buffer .now)) no-box),
-      (refl, edit-kept (a .table) (a .slot) (a .b) (a .elements .now) (a .buffer .now) no-box),
-    )
+    let denied = sym (inOrder-refused (regionBoxChecks (a .table .layout) (slotsOf (a .table)) (a .slot) (a .b)) _ (sym (d .check-box .ensures) ∙ c .enum-told2 .given .1)) in
+    (c .enum-told2 .given .1 ∙ denied, (refl, sym (leaves-before _ _ (sym denied))))
 
 cube-box-requires : tie.Need-cube-box-requires
 cube-box-requires c κs = accepted c
@@ -47,8 +48,8 @@ returns-2 c = let f = c .before .before in
     let m = f .before .before in
     let e = m .before in
     let a = start e .args in (
-      f .write-box .ensures .0 ∙ edit-answered (a .table) (a .slot) (a .b) (a .elements .now) (m .cube-box .ensures) (accepted e) (length (a .buffer .now)),
-      (refl, f .write-box .ensures .1 ∙ edit-left (a .table) (a .slot) (a .b) (a .elements .now) (m .cube-box .ensures) (accepted e) (a .buffer .now)),
+      f .write-box .ensures .0 ∙ edit-answered (a .table) (a .slot) (a .b) (m .cube-box .ensures) (accepted e) (a .elements .now) (length (a .buffer .now)),
+      (refl, f .write-box .ensures .1 ∙ edit-left (a .table) (a .slot) (a .b) (m .cube-box .ensures) (accepted e) (a .elements .now) (a .buffer .now)),
     )
 
 pub edit-spec : {M : Type 1} → statement M

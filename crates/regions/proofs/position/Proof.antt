@@ -3,10 +3,12 @@ use mathlib.Core.Path.{_≡_, sym, _∙_}
 use borrow.Author.Needs.{needs}
 use Rattle.refusal.specs.declared.Answer.the-variants.{Accepted}
 use Rattle.refusal.specs.Checks.{inOrder}
+use Rattle.refusal.proofs.CheckLaws.{quantity-denied}
 use Rattle.layout.specs.Boxes.{oneElement}
 use Rattle.regions.specs.Slots.{slotsOf}
 use Rattle.regions.specs.Rules.{regionBoxChecks}
-use Rattle.regions.proofs.CallLaws.{position-denied, position-is}
+use Rattle.regions.specs.Calls.{regionPosition}
+use Rattle.regions.proofs.CallLaws.{position-is}
 use Rattle.regions.proofs.position.Statement.{statement}
 use Rattle.regions.proofs.position.Tie as tie
 
@@ -31,9 +33,9 @@ position-requires : tie.Need-position-requires
 position-requires c κs = search needs
 
 returns : tie.Need-returns
+unfolding regionPosition
 returns c = let d = c .before .before .before in
-    let a = d .before .args in
-    position-denied (a .table) (a .slot) (a .channel) (a .row) (a .column) (sym (d .check-box .ensures) ∙ c .before .refusal .given .1)
+    sym (quantity-denied _ (sym (d .check-box .ensures) ∙ c .before .refusal .given .1))
 
 returns-2 : tie.Need-returns-2
 returns-2 c = let e = c .before .before in

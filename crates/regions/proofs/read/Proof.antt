@@ -3,9 +3,11 @@ use mathlib.Core.Path.{_≡_, refl, sym, _∙_}
 use lib.ListN.{length}
 use Rattle.refusal.specs.declared.Answer.the-variants.{Accepted}
 use Rattle.refusal.specs.Checks.{inOrder}
+use Rattle.refusal.proofs.CheckLaws.{inOrder-refused, leaves-before}
 use Rattle.regions.specs.Slots.{slotsOf}
-use Rattle.regions.specs.Rules.{regionBoxChecks}
-use Rattle.regions.proofs.CallLaws.{read-denied, read-kept, read-answered, read-left}
+use Rattle.regions.specs.Rules.{regionBoxChecks, readChecks}
+use Rattle.regions.specs.Calls.{readAnswer, readElements}
+use Rattle.regions.proofs.CallLaws.{read-answered, read-left}
 use borrow.Author.Needs.{needs}
 use Rattle.regions.proofs.read.Statement.{statement}
 use Rattle.regions.proofs.read.Tie as tie
@@ -26,12 +28,11 @@ enum-told-2 : tie.Need-enum-told-2
 enum-told-2 c = search needs
 
 returns : tie.Need-returns
+unfolding readAnswer readChecks readElements
 returns c = let d = c .before .before in
     let a = d .before .before .args in
-    let no-box = sym (d .check-box .ensures) ∙ c .enum-told2 .given .1 in (
-      c .enum-told2 .given .1 ∙ sym (read-denied (a .table) (a .slot) (a .b) (length (a .elements .now)) (length (a .buffer .now)) no-box),
-      (refl, read-kept (a .table) (a .slot) (a .b) (a .buffer .now) (a .elements .now) no-box),
-    )
+    let denied = sym (inOrder-refused (regionBoxChecks (a .table .layout) (slotsOf (a .table)) (a .slot) (a .b)) _ (sym (d .check-box .ensures) ∙ c .enum-told2 .given .1)) in
+    (c .enum-told2 .given .1 ∙ denied, (refl, sym (leaves-before _ _ (sym denied))))
 
 cube-box-requires : tie.Need-cube-box-requires
 cube-box-requires c κs = accepted c
