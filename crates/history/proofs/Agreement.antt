@@ -1,5 +1,6 @@
 -- Program and model in step, and still so after one call: the program's slots are the model's, and its buffer is the model's raw tensor packed over the
 -- bytes from before the packing. By cases on the call and on its answer. Assumes nothing.
+--     leaves-ap, leaves-same          a part of what a call leaves
 --     placed-layout, placed-slots     the table after a placing
 --     Agrees                          program and model in step
 --     same-reply, same-elements       what one call replies and gives
@@ -34,12 +35,12 @@ map-set f [] i y = refl
 map-set f (x ∷ xs) zero y = refl
 map-set {B = B} f (x ∷ xs) (suc i) y = ap (λ (zs : List B). f x ∷ zs) (map-set f xs i y)
 
-leaves-ap : {A B : Type 0} (f : A → B) (a : Answer) (done before : A) → f (leaves a done before) ≡ leaves a (f done) (f before)
+pub leaves-ap : {A B : Type 0} (f : A → B) (a : Answer) (done before : A) → f (leaves a done before) ≡ leaves a (f done) (f before)
 unfolding leaves
 leaves-ap f Accepted done before = refl
 leaves-ap f (Refused r i) done before = refl
 
-leaves-same : {A : Type 0} (a : Answer) (x : A) → leaves a x x ≡ x
+pub leaves-same : {A : Type 0} (a : Answer) (x : A) → leaves a x x ≡ x
 unfolding leaves
 leaves-same Accepted x = refl
 leaves-same (Refused r i) x = refl

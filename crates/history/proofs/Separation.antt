@@ -31,6 +31,7 @@ use Rattle.regions.proofs.CallLaws.{read-accepted, edit-accepted}
 use Rattle.regions.proofs.ReadLaws.{same-elements}
 use Rattle.regions.proofs.OverlapLaws.{InRectangle, in-has}
 use Rattle.history.specs.Program.{Call, place, edit, read, none, State, step, writesElement}
+use Rattle.history.proofs.Agreement.{leaves-ap, leaves-same}
 use Rattle.history.proofs.Apart.{Apart, no-shared-byte}
 
 -- ---- what an edit changes
@@ -44,23 +45,18 @@ module _ (t : RegionTable) (n : ℕ) (b : ElementBox) (xs : List ℤ) (buf : Lis
       edited-kept (t .layout) (cubeBox (rectangleAt (slotsOf t) n) b) xs buf (v .reads .admitted .layout) p f
   edit-cases (Refused r i) e p f = refl
 
-  pub edit-names : (p : ℕ) → ((c h w k : ℕ) → InBox (cubeBox (rectangleAt (slotsOf t) n) b) c h w → k < sizeOf (t .layout) → p ≡ elementPosition (t .layout) c h w + k → ⊥)
+  edit-names : (p : ℕ) → ((c h w k : ℕ) → InBox (cubeBox (rectangleAt (slotsOf t) n) b) c h w → k < sizeOf (t .layout) → p ≡ elementPosition (t .layout) c h w + k → ⊥)
       → getD (editBuffer t n b xs buf) p 0 ≡ getD buf p 0
   unfolding editBuffer editAnswer
   edit-names p f = edit-cases (editAnswer t n b xs (length buf)) refl p f
 
-  pub edit-refused : {r : Refusal} {i : ℕ} → editAnswer t n b xs (length buf) ≡ Refused r i → editBuffer t n b xs buf ≡ buf
+  edit-refused : {r : Refusal} {i : ℕ} → editAnswer t n b xs (length buf) ≡ Refused r i → editBuffer t n b xs buf ≡ buf
   unfolding editBuffer
   edit-refused e = leaves-before _ buf e
 
-  edit-long : (v : Answer) → length (leaves v (edited (t .layout) (cubeBox (rectangleAt (slotsOf t) n) b) xs buf) buf) ≡ length buf
-  unfolding leaves
-  edit-long Accepted = edited-length (t .layout) (cubeBox (rectangleAt (slotsOf t) n) b) xs buf
-  edit-long (Refused r i) = refl
-
-  pub edit-length : length (editBuffer t n b xs buf) ≡ length buf
+  edit-length : length (editBuffer t n b xs buf) ≡ length buf
   unfolding editBuffer
-  edit-length = edit-long (editAnswer t n b xs (length buf))
+  edit-length = leaves-ap length _ _ buf ∙ rw (edited-length (t .layout) (cubeBox (rectangleAt (slotsOf t) n) b) xs buf) (leaves-same _ (length buf))
 
 pub call-changes : (q : CubeLayout) (s : State) → s .table .layout ≡ q → (call : Call) (p : ℕ)
     → ((c h w k : ℕ) → writesElement (slotsOf (s .table)) call c h w ≡ true → k < sizeOf q → p ≡ elementPosition q c h w + k → ⊥)

@@ -117,12 +117,12 @@ boxWritten-fits q box xs raw count fx fr =
 pub packed-boxRead : (q : CubeLayout) → Taken q → (box : ElementBox) → BoxTaken q box → (raw : List ℤ) (before : List ℕ) → length raw ≡ elementCount q → Fits q raw
     → q .start + cubeExtent q ≤ length before → boxElements q box (packed q raw before) ≡ boxRead q box raw
 unfolding boxElements boxRead
-packed-boxRead q ok box area raw before long fits room =
+packed-boxRead q ok box valid raw before long fits room =
     let f : ℕ → ℤ = λ (i : ℕ). storedElement q (packed q raw before) (channelAt box i) (rowAt box i) (columnAt box i) in
     let g : ℕ → ℤ = λ (i : ℕ). getD raw (rawIndex q (channelAt box i) (rowAt box i) (columnAt box i)) (pos 0) in
     tabulate-ext (pos 0) (boxCount box) f g
     (λ i hi.
-    let inb = at-in box i hi (area .rows .some) (area .columns .some) in
-    let cube = in-cube q box (channelAt box i) (rowAt box i) (columnAt box i) area inb in
+    let inb = at-in box i hi (valid .rows .some) (valid .columns .some) in
+    let cube = in-cube q box (channelAt box i) (rowAt box i) (columnAt box i) valid inb in
     stored-raw q ok raw before room (channelAt box i) (rowAt box i) (columnAt box i) cube
     (fits .fit (rawIndex q (channelAt box i) (rowAt box i) (columnAt box i)) (subst (λ (n : ℕ). rawIndex q (channelAt box i) (rowAt box i) (columnAt box i) < n) (sym long) (raw-index-lt q (channelAt box i) (rowAt box i) (columnAt box i) cube))))

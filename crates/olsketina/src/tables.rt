@@ -31,15 +31,14 @@ fn region_at(words: &[u32], at: usize) -> Region
     requires { ⌜ at + 5 ≤ length (now words) ⌝ }
     ensures { λ r. ⌜ r ≡ regionAt (now (words .entry)) at ⌝ }
 {
-    let rectangle = Rectangle {
-        column: words[at + 1],
-        row: words[at + 2],
-        columns: words[at + 3],
-        rows: words[at + 4],
-    };
     Region {
         placed: words[at] != 0,
-        rectangle: rectangle,
+        rectangle: Rectangle {
+            column: words[at + 1],
+            row: words[at + 2],
+            columns: words[at + 3],
+            rows: words[at + 4],
+        },
     }
 }
 

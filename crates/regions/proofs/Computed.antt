@@ -57,9 +57,7 @@ editing t n b xs len = answerCode (editAnswer t n b xs len)
 
 pub record Computed : Type 0 where
   -- the paper's second stall overlaps; beside the first there is room; a filled slot is 8
-  pub overlap : placing table 1 (rectangle 1 0 2 1) ≡ 10
-  pub beside : placing table 1 (rectangle 2 0 1 2) ≡ 0
-  pub filled : placing table 0 (rectangle 2 0 1 2) ≡ 8
+  pub placings : placing table 1 (rectangle 1 0 2 1) ∷ placing table 1 (rectangle 2 0 1 2) ∷ placing table 0 (rectangle 2 0 1 2) ∷ [] ≡ 10 ∷ 0 ∷ 8 ∷ []
   -- placing, two at once: 4 and 8, 8 and 9, 9 and 10
   pub place-double : placing unstarted 16 (rectangle 0 0 1 1) ∷ placing table 16 (rectangle 0 0 0 1) ∷ placing table 1 (rectangle 1 0 3 1) ∷ [] ≡ 4 ∷ 8 ∷ 9 ∷ []
   -- a placing fills its slot and no other
@@ -68,11 +66,13 @@ pub record Computed : Type 0 where
   -- an edit, two at once: 4 and 8, 8 and 9, 9 and 6, 6 and 5, 5 and 7; 7 has the index at fault
   pub edit-double : editing unstarted 0 nothing [] 0 ∷ editing table 5 nothing [] 0 ∷ editing table 0 nothing (pos 1 ∷ []) 0 ∷ editing table 0 (oneElement 0 0 0) [] 479 ∷ editing table 0 (oneElement 0 0 0) (pos 200 ∷ []) 479 ∷ [] ≡ 4 ∷ 8 ∷ 9 ∷ 6 ∷ 5 ∷ []
   pub value : editAnswer table 0 (oneElement 0 0 0) (pos 200 ∷ []) 480 ≡ Refused Int8Range 0
-  -- a box ends with its region, not with the frame: row 1 is its last
+  -- a read the same: 8 and 9, 9 and 6, 6 and 5
+  pub read-double : answerCode (readAnswer table 5 nothing 0 0) ∷ answerCode (readAnswer table 0 nothing 1 0) ∷ answerCode (readAnswer table 0 (oneElement 0 0 0) 0 479) ∷ [] ≡ 8 ∷ 9 ∷ 6 ∷ []
+  -- a box ends with its region, not with the frame: row 1 and column 1 are its last; and with the frame's channels
   pub inside : editing table 0 (oneElement 39 1 1) (pos 1 ∷ []) 480 ≡ 0
-  pub row-past : editing table 0 (oneElement 39 2 1) (pos 1 ∷ []) 480 ≡ 9
-  pub column-past : editing table 0 (oneElement 39 1 2) (pos 1 ∷ []) 480 ≡ 9
-  pub channel-past : editing table 0 (oneElement 40 1 1) (pos 1 ∷ []) 480 ≡ 9
+  pub past : map (λ (b : ElementBox). editing table 0 b (pos 1 ∷ []) 480) (oneElement 39 2 1 ∷ oneElement 39 1 2 ∷ oneElement 40 1 1 ∷ []) ≡ 9 ∷ 9 ∷ 9 ∷ []
+  -- the named region of a table made by hand is checked again
+  pub by-hand : editing (record { layout = frame; slots = placedRegion (rectangle 2 0 2 2) ∷ [] }) 0 (oneElement 0 0 0) (pos 1 ∷ []) 480 ≡ 9
   -- the paper's cell 0 33 1 1
   pub position : regionPosition table 0 33 1 1 ≡ Is 417
   -- an edit writes its element at the region's corner, and a read gives it; a read has no 7
@@ -84,18 +84,16 @@ pub computed : Computed
 unfolding requireAt inOrder leaves quantity sizeTaken elementBytes byteOf wordAt signed elementAt remadeFrom remade tabulateFrom tabulate valueTaken valueCheck valueChecksFrom valueChecks surfaces elementPosition cubeExtent boxCount spanInside spanHas boxHas boxIndex channelAt rowAt columnAt sizesTaken wholeAtoms stridesTaken layoutChecks storageChecks surfaceOf rowOf columnOf byteInAtom inAtom atomOwner owner editedByte edited storedElement boxElements slotOf slotsOf rectangleHas occupied anyFrom overlaps rectangleInside slotAt isFilled rectangleOf placeChecks boxInRectangle slotChecks regionBoxChecks readChecks editChecks placeAnswer placeTable editAnswer editBuffer readAnswer readElements regionPosition
 computed =
     record {
-      overlap = refl;
-      beside = refl;
-      filled = refl;
+      placings = refl;
       place-double = refl;
       own = refl;
       other = refl;
       edit-double = refl;
       value = refl;
+      read-double = refl;
       inside = refl;
-      row-past = refl;
-      column-past = refl;
-      channel-past = refl;
+      past = refl;
+      by-hand = refl;
       position = refl;
       written = refl;
       read = refl;

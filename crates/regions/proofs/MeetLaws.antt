@@ -35,16 +35,13 @@ module _ (a n b m : ℕ) where
   meet-common : spansMeet a n b m ≡ true → Common a n b m
   unfolding spansMeet
   meet-common e =
-      let t1 = leb 1 n in
-      let t2 = leb 1 m in
-      let t3 = ltb b (a + n) in
-      let t4 = ltb a (b + m) in
-      let e3 = and-left (t1 && t2 && t3) t4 e in
-      let e2 = and-left (t1 && t2) t3 e3 in
-      let p1 = leb-true 1 n (and-left t1 t2 e2) in
-      let p2 = leb-true 1 m (and-right t1 t2 e2) in
-      let p3 = ltb-true b (a + n) (and-right (t1 && t2) t3 e3) in
-      let p4 = ltb-true a (b + m) (and-right (t1 && t2 && t3) t4 e) in
+      let both = leb 1 n && leb 1 m in
+      let first = and-left (both && ltb b (a + n)) _ e in
+      let some = and-left both _ first in
+      let p1 = leb-true 1 n (and-left _ (leb 1 m) some) in
+      let p2 = leb-true 1 m (and-right (leb 1 n) _ some) in
+      let p3 = ltb-true b (a + n) (and-right both _ first) in
+      let p4 = ltb-true a (b + m) (and-right (both && ltb b (a + n)) _ e) in
       elim (decLe a b) [
         | yes h ↦ record { at = b; first-ge = h; first-lt = p3; second-ge = omega arith; second-lt = omega arith }
         | no f ↦ record { at = a; first-ge = omega arith; first-lt = omega arith; second-ge = omega arith; second-lt = p4 }
@@ -56,17 +53,11 @@ module _ (a n b m : ℕ) where
       and-both (and-both (and-both (le-leb 1 n (omega arith)) (le-leb 1 m (omega arith))) (lt-ltb b (a + n) (omega arith))) (lt-ltb a (b + m) (omega arith))
 
 module _ (f g : Rectangle) where
-  abbrev columns-meet : Bool
-  columns-meet = spansMeet (f .column) (f .columns) (g .column) (g .columns)
-
-  abbrev rows-meet : Bool
-  rows-meet = spansMeet (f .row) (f .rows) (g .row) (g .rows)
-
   meets-shared : (slots : List Slot) (n : ℕ) → slotAt slots n ≡ filled f → slotMeets (filled f) g ≡ true → Shared slots g
   unfolding slotMeets
   meets-shared slots n there e =
-      let c = meet-common (f .column) (f .columns) (g .column) (g .columns) (and-left columns-meet rows-meet e) in
-      let r = meet-common (f .row) (f .rows) (g .row) (g .rows) (and-right columns-meet rows-meet e) in
+      let c = meet-common (f .column) (f .columns) (g .column) (g .columns) (and-left _ _ e) in
+      let r = meet-common (f .row) (f .rows) (g .row) (g .rows) (and-right (spansMeet (f .column) (f .columns) (g .column) (g .columns)) _ e) in
       record {
         w = c .at;
         h = r .at;

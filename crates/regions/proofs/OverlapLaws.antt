@@ -8,9 +8,9 @@ use native.Mathlib.Nat.{eq-or-lt-of-le}
 use native.Mathlib.Omega.{arith}
 use mathlib.Core.Path.{_≡_, refl, ap, _∙_}
 use mathlib.Core.Logic.{_⊎_, inl, inr, ⊎-elim}
-use mathlib.Core.Bool.{Bool, true, false, _&&_, _||_}
+use mathlib.Core.Bool.{Bool, true, false, _||_, or-true}
 use mathlib.Core.List.{List, [], _∷_}
-use lib.Dec.{leb, ltb}
+use lib.Dec.{leb}
 use borrow.Author.Tests.{le-leb, leb-true, lt-ltb, ltb-true}
 use Rattle.layout.specs.Boxes.{spanHas}
 use Rattle.refusal.proofs.TestLaws.{and-left, and-right, and-both}
@@ -22,13 +22,6 @@ use Rattle.regions.specs.Overlaps.{Shared}
 or-cases : (a b : Bool) → (a || b) ≡ true → (a ≡ true) ⊎ (b ≡ true)
 or-cases true b e = inl refl
 or-cases false b e = inr e
-
-or-left : {a : Bool} (b : Bool) → a ≡ true → (a || b) ≡ true
-or-left b e = rw e
-
-or-right : (a : Bool) {b : Bool} → b ≡ true → (a || b) ≡ true
-or-right true e = refl
-or-right false e = e
 
 -- ---- positions of a rectangle
 
@@ -43,17 +36,13 @@ module _ (g : Rectangle) (w h : ℕ) where
   pub has-in : rectangleHas g w h ≡ true → InRectangle g w h
   unfolding rectangleHas spanHas
   has-in e =
-      let c1 = leb (g .column) w in
-      let c2 = ltb w (g .column + g .columns) in
-      let r1 = leb (g .row) h in
-      let r2 = ltb h (g .row + g .rows) in
-      let ec = and-left (c1 && c2) (r1 && r2) e in
-      let er = and-right (c1 && c2) (r1 && r2) e in
+      let column : spanHas (g .column) (g .columns) w ≡ true = and-left _ _ e in
+      let row : spanHas (g .row) (g .rows) h ≡ true = and-right (spanHas (g .column) (g .columns) w) _ e in
       record {
-        column-ge = leb-true (g .column) w (and-left c1 c2 ec);
-        column-lt = ltb-true w (g .column + g .columns) (and-right c1 c2 ec);
-        row-ge = leb-true (g .row) h (and-left r1 r2 er);
-        row-lt = ltb-true h (g .row + g .rows) (and-right r1 r2 er);
+        column-ge = leb-true (g .column) w (and-left _ _ column);
+        column-lt = ltb-true w (g .column + g .columns) (and-right (leb (g .column) w) _ column);
+        row-ge = leb-true (g .row) h (and-left _ _ row);
+        row-lt = ltb-true h (g .row + g .rows) (and-right (leb (g .row) h) _ row);
       }
 
   pub in-has : InRectangle g w h → rectangleHas g w h ≡ true
@@ -86,8 +75,8 @@ module _ (test : ℕ → Bool) where
   some-any first zero at p q t = absurd (omega arith)
   some-any first (suc count) at p q t =
       ⊎-elim
-      (λ i. or-left (anyFrom test (suc first) count) (ap test i ∙ t))
-      (λ i. or-right (test first) (some-any (suc first) count at i (omega arith) t))
+      (λ i. ap (λ (now : Bool). now || anyFrom test (suc first) count) (ap test i ∙ t))
+      (λ i. ap (λ (later : Bool). test first || later) (some-any (suc first) count at i (omega arith) t) ∙ or-true (test first))
       (eq-or-lt-of-le p)
 
 -- ---- a position in a placed rectangle
@@ -119,8 +108,8 @@ stands-occupied (empty ∷ slots) zero f w h e t = absurd (let z : _≡_ {A = �
 stands-occupied (empty ∷ slots) (suc n) f w h e t = stands-occupied slots n f w h e t
 stands-occupied (filled f′ ∷ slots) zero f w h e t =
     let same : f′ ≡ f = cc in
-    or-left (occupied slots w h) (ap (λ (r : Rectangle). rectangleHas r w h) same ∙ t)
-stands-occupied (filled f′ ∷ slots) (suc n) f w h e t = or-right (rectangleHas f′ w h) (stands-occupied slots n f w h e t)
+    rw (ap (λ (r : Rectangle). rectangleHas r w h) same ∙ t)
+stands-occupied (filled f′ ∷ slots) (suc n) f w h e t = rw (stands-occupied slots n f w h e t) (or-true (rectangleHas f′ w h))
 
 -- ---- overlapping
 
