@@ -20,7 +20,7 @@ use Rattle.layout.specs.declared.CubeLayout.{CubeLayout}
 use Rattle.layout.specs.Geometry.{sizeOf, elementPosition}
 use Rattle.layout.proofs.Taken.{Taken}
 use Rattle.layout.proofs.BoxLaws.{InCube}
-use Rattle.layout.proofs.Places.{element-own}
+use Rattle.layout.proofs.Formulas.{element-own}
 use Rattle.regions.specs.declared.Rectangle.{Rectangle}
 use Rattle.regions.specs.declared.RegionTable.{RegionTable}
 use Rattle.regions.specs.Slots.{Slot, empty, filled, slotOf, slotsOf, emptySlots, rectangleHas, rectangleInside}

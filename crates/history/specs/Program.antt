@@ -6,6 +6,7 @@ use mathlib.Core.List.{List, [], _∷_}
 use lib.ListN.{length, getD}
 use lib.IntN.{ℤ, pos}
 use lib.Signed.{mag}
+pub use Rattle.elements.specs.Values.{SixteenBit}
 use Rattle.refusal.specs.declared.Answer.{Answer}
 use Rattle.layout.specs.declared.CubeLayout.{CubeLayout}
 use Rattle.layout.specs.declared.ElementBox.{ElementBox}
@@ -28,10 +29,6 @@ unfoldable pub lends : Call → List ℤ
 lends (place n g) = []
 lends (edit n b xs) = xs
 lends (read n b xs) = xs
-
--- every element is a 16-bit number, as it is in every slice of i16
-pub record SixteenBit (xs : List ℤ) : Type 0 where
-  pub each : (i : ℕ) → mag (getD xs i (pos 0)) < 32768
 
 -- every call of a list lends such elements
 unfoldable pub LendsSixteenBit : List Call → Type 0
