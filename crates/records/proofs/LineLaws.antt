@@ -1,32 +1,39 @@
--- A line, from its first field and the numbers behind it. Assumes nothing.
---     record-long     a line of over 120 bytes is unreadable
---     record-is       another line's record, by its word and the numbers that the code holds
+-- A line's record: from its first field and the numbers behind it, and from the line that was collected. Assumes nothing.
+--     fields-is       a text's record, by its word and the numbers behind it
+--     line-record     a collected line has its text's record
 use Prim.Native.Nat.{ℕ, _-_, _≤_, _<_}
 use mathlib.Core.Path.{_≡_, sym, _∙_}
 use mathlib.Core.List.{List}
+use native.Mathlib.Decide.{decLe}
+use native.Mathlib.Omega.{arith}
 use lib.ListN.{length, take, drop}
 use borrow.Author.Tests.{le-leb, lt-leb}
+use Rattle.lines.specs.declared.Line.{Line}
+use Rattle.lines.specs.declared.Numbers.{Numbers}
+use Rattle.lines.specs.Texts.{fieldsOf, partLength}
+use Rattle.lines.specs.Numbers.{numbersBehind}
+use Rattle.lines.proofs.SplitLaws.{split-first, part-whole}
+use Rattle.lines.proofs.HoldLaws.{Holds, holds-whole, holds-text}
 use Rattle.records.specs.declared.Record.the-variants.{Unreadable}
-use Rattle.records.specs.Texts.{fieldsOf}
-use Rattle.records.specs.Records.{Numbers, numbersOf, byWord, byFields, recordOf}
-use Rattle.records.specs.Passes.{fieldLength, fieldsBehind, upToSeven}
-use Rattle.records.proofs.SplitLaws.{split-first, part-whole}
-use Rattle.records.proofs.PassLaws.{byWord-upToSeven}
+use Rattle.records.specs.Records.{byWord, byFields, lineRecord, recordOf}
 
-module _ (line : List ℕ) where
-  pub record-long : 120 < length line → recordOf line ≡ Unreadable
-  unfolding recordOf
-  record-long h = rw (lt-leb (length line) 120 h)
+pub fields-is : (text : List ℕ) (end : ℕ) (ns : Numbers) → end ≡ partLength 9 text → ns ≡ numbersBehind (take (length text - end) (drop end text))
+    → byWord (take end text) ns ≡ byFields (fieldsOf text)
+unfolding fieldsOf byFields
+fields-is text end ns e m = sym (rw (split-first 9 text) (rw (← e, m, part-whole text end)))
 
-  first : length line ≤ 120 → recordOf line ≡ byWord (take (fieldLength line) line) (numbersOf (fieldsBehind (drop (fieldLength line) line)))
-  unfolding recordOf fieldsOf byFields
-  first h = rw (le-leb (length line) 120 h, split-first line)
+pub record-long : (line : List ℕ) → 120 < length line → recordOf line ≡ Unreadable
+unfolding recordOf
+record-long line h = rw (lt-leb (length line) 120 h)
 
-  pub record-is : (end : ℕ) (n : Numbers)
-      → length line ≤ 120 → end ≡ fieldLength line → upToSeven (numbersOf (fieldsBehind (take (length line - end) (drop end line)))) ≡ n
-      → recordOf line ≡ byWord (take end line) n
-  record-is end n h e m =
-      let word = take (fieldLength line) line in
-      first h
-      ∙ sym (byWord-upToSeven word (numbersOf (fieldsBehind (drop (fieldLength line) line))))
-      ∙ rw (← e, ← part-whole line end, m)
+module _ (l : Line) (text : List ℕ) (o : Holds l text) where
+  record-short : length text ≤ 120 → lineRecord l ≡ recordOf text
+  unfolding lineRecord recordOf
+  record-short h = rw (holds-whole l text o, holds-text l text o h)
+
+  record-past : 120 < length text → lineRecord l ≡ recordOf text
+  unfolding lineRecord recordOf
+  record-past h = rw (holds-whole l text o, lt-leb (length text) 120 h)
+
+  pub line-record : lineRecord l ≡ recordOf text
+  line-record = elim (decLe (length text) 120) [ yes h ↦ record-short h | no f ↦ record-past (omega arith) ]

@@ -4,9 +4,11 @@ use Prim.Native.Nat.{ℕ, _+_, _<_}
 use mathlib.Core.Path.{_≡_, refl}
 use mathlib.Core.List.{List, [], _∷_, _++_, map}
 use lib.ListN.{length}
+use Rattle.layout.specs.Geometry.{layoutOf}
+use Rattle.lines.specs.Texts.{before, split, fieldsOf, sameText}
+use Rattle.lines.specs.Numbers.{isDigit, allDigits, valueAfter, isEmpty, wellBegun, numberOf, andNumber, listed, inTable, numbersOf}
 use Rattle.records.specs.declared.Record.the-variants.{Frame, Stall, Cell, Unreadable}
-use Rattle.records.specs.Texts.{before, split, fieldsOf, isDigit, allDigits, valueAfter, isEmpty, wellBegun, numberOf}
-use Rattle.records.specs.Records.{andNumber, numbersOf, sameText, frameWord, stallWord, cellWord, shaped, byWord, byFields, recordOf}
+use Rattle.records.specs.Records.{frameWord, stallWord, cellWord, shaped, frameOf, stallOf, cellOf, byWord, byFields, recordOf}
 use Rattle.records.proofs.LineLaws.{record-long}
 
 -- ---- how a line is written here: its word, then the digits of each number
@@ -35,7 +37,7 @@ bytes = refl
 
 pub record Readable : Type 0 where
   -- the example: `frame` 3 2 40 0 128 256 0; `stall` 0 0 0 2 2; `stall` 1 1 0 2 1; `cell` 0 33 1 1
-  pub frame : recordOf (line frameWord ((3 ∷ []) ∷ (2 ∷ []) ∷ (4 ∷ 0 ∷ []) ∷ (0 ∷ []) ∷ (1 ∷ 2 ∷ 8 ∷ []) ∷ (2 ∷ 5 ∷ 6 ∷ []) ∷ (0 ∷ []) ∷ [])) ≡ Frame 3 2 40 0 128 256 0
+  pub frame : recordOf (line frameWord ((3 ∷ []) ∷ (2 ∷ []) ∷ (4 ∷ 0 ∷ []) ∷ (0 ∷ []) ∷ (1 ∷ 2 ∷ 8 ∷ []) ∷ (2 ∷ 5 ∷ 6 ∷ []) ∷ (0 ∷ []) ∷ [])) ≡ Frame (layoutOf 3 2 40 0 128 256 0)
   pub stall : recordOf (line stallWord ((0 ∷ []) ∷ (0 ∷ []) ∷ (0 ∷ []) ∷ (2 ∷ []) ∷ (2 ∷ []) ∷ [])) ≡ Stall 0 0 0 2 2
   pub second : recordOf (line stallWord ((1 ∷ []) ∷ (1 ∷ []) ∷ (0 ∷ []) ∷ (2 ∷ []) ∷ (1 ∷ []) ∷ [])) ≡ Stall 1 1 0 2 1
   pub cell : recordOf (line cellWord ((0 ∷ []) ∷ (3 ∷ 3 ∷ []) ∷ (1 ∷ []) ∷ (1 ∷ []) ∷ [])) ≡ Cell 0 33 1 1
@@ -43,10 +45,10 @@ pub record Readable : Type 0 where
   pub greatest : recordOf (line cellWord ((0 ∷ []) ∷ (0 ∷ []) ∷ (0 ∷ []) ∷ largest ∷ [])) ≡ Cell 0 0 0 4294967295
   -- `frame` and seven times 4294967295: 82 bytes
   pub longest : recordOf (line frameWord (largest ∷ largest ∷ largest ∷ largest ∷ largest ∷ largest ∷ largest ∷ []))
-      ≡ Frame 4294967295 4294967295 4294967295 4294967295 4294967295 4294967295 4294967295
+      ≡ Frame (layoutOf 4294967295 4294967295 4294967295 4294967295 4294967295 4294967295 4294967295)
 
 pub readable : Readable
-unfolding before split fieldsOf isDigit allDigits valueAfter isEmpty wellBegun numberOf andNumber numbersOf sameText shaped byWord byFields recordOf
+unfolding before split fieldsOf sameText isDigit allDigits valueAfter isEmpty wellBegun numberOf andNumber listed inTable numbersOf shaped frameOf stallOf cellOf byWord byFields recordOf
 readable = record { frame = refl; stall = refl; second = refl; cell = refl; greatest = refl; longest = refl }
 
 -- ---- lines that are not
@@ -73,6 +75,6 @@ pub record NotReadable : Type 0 where
   pub long : (bytes : List ℕ) → 120 < length bytes → recordOf bytes ≡ Unreadable
 
 pub not-readable : NotReadable
-unfolding before split fieldsOf isDigit allDigits valueAfter isEmpty wellBegun numberOf andNumber numbersOf sameText shaped byWord byFields recordOf
+unfolding before split fieldsOf sameText isDigit allDigits valueAfter isEmpty wellBegun numberOf andNumber listed inTable numbersOf shaped frameOf stallOf cellOf byWord byFields recordOf
 not-readable =
     record { empty = refl; gap = refl; zero = refl; over = refl; tab = refl; return = refl; missing = refl; extra = refl; colon = refl; long = record-long }

@@ -1,9 +1,8 @@
 -- `records::by_word` meets its contract: the first word that is the same names the shape. Assumes nothing.
 use mathlib.Core.Path.{_≡_, sym, _∙_}
 use mathlib.Core.Bool.{false}
-use Rattle.records.specs.Records.{sameText, frameWord, stallWord}
-use Rattle.records.specs.Passes.{numbersIn}
-use Rattle.records.proofs.ShapeLaws.{byWord-frame, byWord-stall, byWord-cell, byWord-other}
+use Rattle.lines.specs.Texts.{sameText}
+use Rattle.records.specs.Records.{frameWord, stallWord, byWord}
 use borrow.Author.Needs.{needs}
 use Rattle.records.proofs.by_word.Statement.{statement}
 use Rattle.records.proofs.by_word.Tie as tie
@@ -18,10 +17,8 @@ frame-requires : tie.Need-frame-requires
 frame-requires c κs = search needs
 
 returns : tie.Need-returns
-returns c =
-    let a = c .before .before .before .before .before .args in
-    let same = sym (c .before .before .same .ensures) ∙ c .before .if1 .taken in
-    c .frame .ensures ∙ sym (byWord-frame (a .word .now) (numbersIn (a .ns .count) (a .ns .values)) same)
+unfolding byWord
+returns c = c .frame .ensures ∙ rw (sym (c .before .before .same .ensures) ∙ c .before .if1 .taken)
 
 no-frame : (c : tie.Else1) → sameText (c .before .before .before .before .args .word .now) frameWord ≡ false
 no-frame c = sym (c .before .same .ensures) ∙ c .if1 .left
@@ -36,10 +33,8 @@ stall-requires : tie.Need-stall-requires
 stall-requires c κs = search needs
 
 returns-2 : tie.Need-returns-2
-returns-2 c =
-    let a = c .before .before .before .before .before .before .before .before .args in
-    let same = sym (c .before .before .same2 .ensures) ∙ c .before .if2 .taken in
-    c .stall .ensures ∙ sym (byWord-stall (a .word .now) (numbersIn (a .ns .count) (a .ns .values)) (no-frame (c .before .before .before .before)) same)
+unfolding byWord
+returns-2 c = c .stall .ensures ∙ rw (no-frame (c .before .before .before .before), sym (c .before .before .same2 .ensures) ∙ c .before .if2 .taken)
 
 no-stall : (c : tie.Else2) → sameText (c .before .before .before .before .before .before .before .args .word .now) stallWord ≡ false
 no-stall c = sym (c .before .same2 .ensures) ∙ c .if2 .left
@@ -54,18 +49,16 @@ cell-requires : tie.Need-cell-requires
 cell-requires c κs = search needs
 
 returns-3 : tie.Need-returns-3
+unfolding byWord
 returns-3 c =
-    let a = c .before .before .before .before .before .before .before .before .before .before .before .args in
-    let same = sym (c .before .before .same3 .ensures) ∙ c .before .if3 .taken in
     let e = c .before .before .before .before in
-    c .cell .ensures ∙ sym (byWord-cell (a .word .now) (numbersIn (a .ns .count) (a .ns .values)) (no-frame (e .before .before .before)) (no-stall e) same)
+    c .cell .ensures ∙ rw (no-frame (e .before .before .before), no-stall e, sym (c .before .before .same3 .ensures) ∙ c .before .if3 .taken)
 
 returns-4 : tie.Need-returns-4
+unfolding byWord
 returns-4 c =
-    let a = c .before .before .before .before .before .before .before .before .before .before .args in
-    let other = sym (c .before .same3 .ensures) ∙ c .if3 .left in
     let e = c .before .before .before in
-    sym (byWord-other (a .word .now) (numbersIn (a .ns .count) (a .ns .values)) (no-frame (e .before .before .before)) (no-stall e) other)
+    rw (no-frame (e .before .before .before), no-stall e, sym (c .before .same3 .ensures) ∙ c .if3 .left)
 
 pub by-word-spec : {M : Type 1} → statement M
 by-word-spec =

@@ -1,16 +1,13 @@
 -- `records::stall` meets its contract: 5 numbers are the record, another count is none. Assumes nothing.
-use mathlib.Core.Path.{_≡_, sym}
-use lib.ListN.{length}
+use borrow.Author.Tests.{eq-eqb, ne-eqb}
+use Rattle.records.specs.Records.{shaped, stallOf}
 use borrow.Author.Needs.{needs}
-use Rattle.records.proofs.ShapeLaws.{stall-other, stall-is}
 use Rattle.records.proofs.stall.Statement.{statement}
 use Rattle.records.proofs.stall.Tie as tie
 
 returns : tie.Need-returns
-returns c =
-    let ns = c .before .before .args .ns in
-    let seven : length (ns .values) ≡ 7 = search needs in
-    sym (stall-other (ns .count) (ns .values) seven (c .if1 .taken))
+unfolding stallOf shaped
+returns c = rw (ne-eqb _ 5 (c .if1 .taken))
 
 array-read-t6 : tie.Need-array-read-t6
 array-read-t6 c = search needs
@@ -28,10 +25,8 @@ array-read-t18 : tie.Need-array-read-t18
 array-read-t18 c = search needs
 
 returns-2 : tie.Need-returns-2
-returns-2 c =
-    let ns = c .before .before .before .args .ns in
-    let seven : length (ns .values) ≡ 7 = search needs in
-    sym (stall-is (ns .count) (ns .values) seven (c .before .if1 .left))
+unfolding stallOf shaped
+returns-2 c = rw (eq-eqb _ 5 (c .before .if1 .left))
 
 pub stall-spec : {M : Type 1} → statement M
 stall-spec =

@@ -4,19 +4,19 @@
 --     valueAfter-le                        digits more make no number smaller
 --     number-begun, -below, -above, -over  what makes a text unreadable: its beginning, a byte below or above the digits, a value over 4294967295
 --     number-end                           else it is the value read
-use Prim.Native.Nat.{ℕ, _+_, _-_, _*_, _≤_, _<_}
+--     signed-none, -minus, -plain          a text where a minus may stand: empty, begun by one, or not
+use Prim.Native.Nat.{ℕ, suc, _+_, _-_, _*_, _≤_, _<_}
 use mathlib.Core.Path.{_≡_, refl, _∙_}
 use mathlib.Core.Bool.{Bool, true, false}
 use mathlib.Core.List.{List, [], _∷_}
 use native.Mathlib.Nat.{le-refl}
 use native.Mathlib.Numerals.{add-one}
 use native.Mathlib.Omega.{arith}
-use lib.ListN.{length, getD, drop, drop-of-length-le}
-use lib.Seq.{drop-cons}
-use borrow.Author.Tests.{le-leb, lt-leb}
-use Rattle.records.specs.declared.texts.Field.the-variants.{Unreadable, Number}
-use Rattle.records.specs.Texts.{isDigit, allDigits, valueAfter, wellBegun, numberOf}
-use Rattle.records.specs.Passes.{asField}
+use lib.ListN.{length, getD, take, drop, drop-of-length-le}
+use lib.Seq.{drop-cons, take-all}
+use borrow.Author.Tests.{le-leb, lt-leb, eq-eqb, ne-eqb}
+use Rattle.lines.specs.declared.Number.the-variants.{Unreadable, Is}
+use Rattle.lines.specs.Numbers.{isDigit, allDigits, valueAfter, wellBegun, numberOf, withMinus, signedOf}
 
 -- the first i bytes are digits of the value `high`
 pub record Passed (text : List ℕ) (high i : ℕ) : Type 0 where
@@ -41,31 +41,48 @@ module _ (text : List ℕ) (high i : ℕ) (p : Passed text high i) where
       }
 
   module _ (w : wellBegun text ≡ true) where
-    no-digit : allDigits (drop i text) ≡ false → asField (numberOf text) ≡ Unreadable
-    unfolding numberOf asField
+    no-digit : allDigits (drop i text) ≡ false → numberOf text ≡ Unreadable
+    unfolding numberOf
     no-digit e = rw (w, p .digits, e)
 
-    pub number-below : i < length text → getD text i 0 < 48 → asField (numberOf text) ≡ Unreadable
+    pub number-below : i < length text → getD text i 0 < 48 → numberOf text ≡ Unreadable
     unfolding allDigits isDigit
     number-below h b = no-digit (rw (drop-cons text i 0 h, lt-leb 48 (getD text i 0) b))
 
-    pub number-above : i < length text → 48 ≤ getD text i 0 → 57 < getD text i 0 → asField (numberOf text) ≡ Unreadable
+    pub number-above : i < length text → 48 ≤ getD text i 0 → 57 < getD text i 0 → numberOf text ≡ Unreadable
     unfolding allDigits isDigit
     number-above h low b = no-digit (rw (drop-cons text i 0 h, le-leb 48 (getD text i 0) low, lt-leb (getD text i 0) 57 b))
 
-    pub number-end : length text ≤ i → high ≤ 4294967295 → asField (numberOf text) ≡ Number high
-    unfolding numberOf asField allDigits valueAfter
+    pub number-end : length text ≤ i → high ≤ 4294967295 → numberOf text ≡ Is false high
+    unfolding numberOf allDigits valueAfter
     number-end h m = rw (w, p .digits, p .value, drop-of-length-le text {i = i} h, le-leb high 4294967295 m)
 
-pub number-begun : (text : List ℕ) → wellBegun text ≡ false → asField (numberOf text) ≡ Unreadable
-unfolding numberOf asField
+pub number-begun : (text : List ℕ) → wellBegun text ≡ false → numberOf text ≡ Unreadable
+unfolding numberOf
 number-begun text w = rw w
 
-over : (digits : Bool) (text : List ℕ) → 4294967295 < valueAfter 0 text → allDigits text ≡ digits → wellBegun text ≡ true → asField (numberOf text) ≡ Unreadable
-unfolding numberOf asField
+over : (digits : Bool) (text : List ℕ) → 4294967295 < valueAfter 0 text → allDigits text ≡ digits → wellBegun text ≡ true → numberOf text ≡ Unreadable
+unfolding numberOf
 over true text v d w = rw (w, d, lt-leb (valueAfter 0 text) 4294967295 v)
 over false text v d w = rw (w, d)
 
-pub number-over : (text : List ℕ) (high i : ℕ) → Passed text high i → wellBegun text ≡ true → 4294967295 < high → asField (numberOf text) ≡ Unreadable
+pub number-over : (text : List ℕ) (high i : ℕ) → Passed text high i → wellBegun text ≡ true → 4294967295 < high → numberOf text ≡ Unreadable
 number-over text high i p w h =
     over (allDigits text) text (rw (p .value) (omega (arith, valueAfter-le high (drop i text)))) refl w
+
+-- ---- where a minus may stand
+
+pub signed-none : (text : List ℕ) → length text ≡ 0 → signedOf text ≡ Unreadable
+unfolding signedOf
+signed-none [] e = refl
+signed-none (b ∷ text) e = absurd (omega arith)
+
+pub signed-minus : (text : List ℕ) → 0 < length text → getD text 0 0 ≡ 45 → signedOf text ≡ withMinus (numberOf (take (length text - 1) (drop 1 text)))
+unfolding signedOf
+signed-minus [] h e = absurd (omega arith)
+signed-minus (b ∷ text) h e = rw (eq-eqb b 45 e, take-all (suc (length text) - 1) text (omega arith))
+
+pub signed-plain : (text : List ℕ) → 0 < length text → (getD text 0 0 ≡ 45 → ⊥) → signedOf text ≡ numberOf text
+unfolding signedOf
+signed-plain [] h e = absurd (omega arith)
+signed-plain (b ∷ text) h e = rw (ne-eqb b 45 e)

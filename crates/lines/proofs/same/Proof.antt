@@ -1,14 +1,14 @@
--- `records::texts::same` meets its contract. The loop's invariant: the texts are the same if what is left of them is. The measure is what is
+-- `lines::same` meets its contract. The loop's invariant: the texts are the same if what is left of them is. The measure is what is
 -- left of the text. Assumes nothing.
 use Prim.Native.Nat.{_-_, _≤_}
 use mathlib.Core.Path.{_≡_, sym, _∙_}
 use native.Mathlib.Omega.{arith}
 use borrow.Author.Needs.{needs}
 use lib.ListN.{length, drop}
-use Rattle.records.specs.Records.{sameText}
-use Rattle.records.proofs.TextLaws.{sameText-length, sameText-end, sameText-other, sameText-next}
-use Rattle.records.proofs.texts.same.Statement.{statement}
-use Rattle.records.proofs.texts.same.Tie as tie
+use Rattle.lines.specs.Texts.{sameText}
+use Rattle.lines.proofs.TextLaws.{sameText-length, sameText-end, sameText-other, sameText-next}
+use Rattle.lines.proofs.same.Statement.{statement}
+use Rattle.lines.proofs.same.Tie as tie
 
 abbrev Inv-loop : tie.InvT-loop
 Inv-loop text word i₀ i = (i ≤ length text) × (sameText text word ≡ sameText (drop i text) (drop i word))

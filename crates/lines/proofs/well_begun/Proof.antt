@@ -1,10 +1,10 @@
--- `records::texts::well_begun` meets its contract, by the length of the text. Assumes nothing.
+-- `lines::well_begun` meets its contract, by the length of the text. Assumes nothing.
 use mathlib.Core.Path.{sym}
 use native.Mathlib.Omega.{arith}
 use borrow.Author.Needs.{needs}
-use Rattle.records.proofs.TextLaws.{wellBegun-none, wellBegun-one, wellBegun-more}
-use Rattle.records.proofs.texts.well_begun.Statement.{statement}
-use Rattle.records.proofs.texts.well_begun.Tie as tie
+use Rattle.lines.proofs.TextLaws.{wellBegun-none, wellBegun-one, wellBegun-more}
+use Rattle.lines.proofs.well_begun.Statement.{statement}
+use Rattle.lines.proofs.well_begun.Tie as tie
 
 returns : tie.Need-returns
 returns c = sym (wellBegun-none (c .before .args .text .now) (c .if1 .taken))

@@ -1,4 +1,4 @@
--- `records::texts::number` meets its contract. The loop's invariant: the first i bytes are digits of the value `high`, which is at most
+-- `lines::read_number` meets its contract. The loop's invariant: the first i bytes are digits of the value `high`, which is at most
 -- 4294967295. The measure is what is left of the text. Assumes nothing.
 use Prim.Native.Nat.{_+_, _-_, _≤_}
 use mathlib.Core.Path.{_≡_, sym, _∙_}
@@ -7,10 +7,10 @@ use native.Mathlib.Omega.{arith}
 use borrow.Author.Needs.{needs}
 use borrow.Author.Tests.{not-true, not-false}
 use lib.ListN.{length}
-use Rattle.records.specs.Texts.{wellBegun}
-use Rattle.records.proofs.NumberLaws.{Passed, passed-none, passed-next, number-begun, number-below, number-above, number-over, number-end}
-use Rattle.records.proofs.texts.number.Statement.{statement}
-use Rattle.records.proofs.texts.number.Tie as tie
+use Rattle.lines.specs.Numbers.{wellBegun}
+use Rattle.lines.proofs.NumberLaws.{Passed, passed-none, passed-next, number-begun, number-below, number-above, number-over, number-end}
+use Rattle.lines.proofs.read_number.Statement.{statement}
+use Rattle.lines.proofs.read_number.Tie as tie
 
 abbrev Inv-loop : tie.InvT-loop
 Inv-loop text high₀ i₀ high i = (i ≤ length text) × (high ≤ 4294967295) × (wellBegun text ≡ true) × Passed text high i
@@ -82,8 +82,8 @@ returns-5 c =
     let text = c .before .before .before .before .before .args .text .now in
     sym (number-end text (l .high) (l .i) (l .inv .3) (l .inv .2) (omega arith) (l .inv .1))
 
-pub number-spec : {M : Type 1} → statement M
-number-spec =
+pub read-number-spec : {M : Type 1} → statement M
+read-number-spec =
     tie.close
     (tie.spec
     Inv-loop

@@ -1,19 +1,26 @@
--- Two texts compared byte by byte, and the beginning of a number. By induction on the text. Assumes nothing.
+-- Two texts compared byte by byte, the beginning of a number, and a list with 0 behind it. By induction on the text. Assumes nothing.
 --     sameText-length                  texts of other lengths are not the same
 --     sameText-end, -other, -next      at the end, at two bytes that differ, at two equal bytes
 --     wellBegun-none, -one, -more      a text of no byte, of one, of more
-use Prim.Native.Nat.{ℕ, suc, _+_, _≤_, _<_}
-use mathlib.Core.Path.{_≡_, refl, ap}
+--     padded-set                       one element more, and 0 behind it
+use Prim.Native.Nat.{ℕ, suc, _+_, _-_, _≤_, _<_}
+use mathlib.Core.Path.{_≡_, refl, sym, ap, _∙_}
 use mathlib.Core.Bool.{Bool, true, false, not, _&&_}
-use mathlib.Core.List.{List, [], _∷_}
+use mathlib.Core.List.{List, [], _∷_, _++_, append-assoc}
 use native.Mathlib.Numerals.{add-one}
 use native.Mathlib.Omega.{arith}
 use lib.Dec.{eqb}
-use lib.ListN.{length, getD, drop, drop-of-length-le}
-use lib.Seq.{drop-cons}
+use lib.ListN.{length, getD, drop, set, replicate, length-append, drop-of-length-le}
+use lib.Seq.{drop-cons, set-at}
 use borrow.Author.Tests.{eq-eqb, ne-eqb}
-use Rattle.records.specs.Texts.{isEmpty, wellBegun}
-use Rattle.records.specs.Records.{sameText}
+use Rattle.lines.specs.Numbers.{isEmpty, wellBegun}
+use Rattle.lines.specs.Texts.{padded, sameText}
+
+pub padded-set : (size : ℕ) (l : List ℕ) (v : ℕ) → length l < size → set (padded size l) (length l) v ≡ padded size (l ++ v ∷ [])
+padded-set size l v h =
+    let n = size - length (l ++ v ∷ []) in
+    let more : size - length l ≡ suc n = omega (arith, length-append l (v ∷ [])) in
+    rw more (set-at l 0 (replicate n 0) v (length l) refl ∙ sym (append-assoc l (v ∷ []) (replicate n 0)))
 
 and-false : (t : Bool) → t && false ≡ false
 and-false true = refl
