@@ -5,6 +5,7 @@
 --     holds-none, holds-some               whether the text is empty
 --     holds-whole, holds-text              whether all bytes are kept, and which
 --     added-end, added-kept, added-lost    bytes added from a byte on, by the length of the line
+--     added-append                         bytes added one after another
 --     written-added, written-text          a text written to a line
 --     count-next, count-again              the count after a line
 --     collected-ended, collected-open      a part with a newline, and one without
@@ -141,6 +142,11 @@ written-added [] text h = rw (append-nil text)
 written-added (b ∷ bytes) text h =
     let fits : length (text ++ b ∷ []) + length bytes ≤ 120 = omega (arith, length-append text (b ∷ [])) in
     ap (λ (l : Line). added l bytes) (written-byte text b (omega arith)) ∙ written-added bytes (text ++ b ∷ []) fits ∙ ap written (append-snoc text b bytes)
+
+pub added-append : (xs ys : List ℕ) (l : Line) → added (added l xs) ys ≡ added l (xs ++ ys)
+unfolding added
+added-append [] ys l = refl
+added-append (b ∷ xs) ys l = added-append xs ys (withByte l b)
 
 pub written-text : (text : List ℕ) → lineText (written text) ≡ text
 unfolding lineText

@@ -61,17 +61,14 @@ module _ (d : Desk) where
   record-unreadable = record-refused Unreadable refl
 
   -- ---- frame
-  abbrev pub frameOf : CubeLayout → Record
-  frameOf q = Frame (q .width) (q .height) (q .channels) (q .precision) (q .line) (q .surface) (q .start)
-
   module _ (q : CubeLayout) where
-    pub frame-refused : {x : Refusal} {i : ℕ} → extentQuantity q ≡ Denied x i → refusedRecord d x i ≡ afterRecord d (frameOf q)
+    pub frame-refused : {x : Refusal} {i : ℕ} → extentQuantity q ≡ Denied x i → refusedRecord d x i ≡ afterRecord d (Frame q)
     unfolding extentQuantity recordAnswer
-    frame-refused e = record-refused (frameOf q) (denied _ _ e)
+    frame-refused e = record-refused (Frame q) (denied _ _ e)
 
-    pub frame-taken : {v : ℕ} → extentQuantity q ≡ Is v → _≡_ {A = After} (record { answer = Accepted; value = v; framed = true; table = emptyTable q }) (afterRecord d (frameOf q))
+    pub frame-taken : {v : ℕ} → extentQuantity q ≡ Is v → _≡_ {A = After} (record { answer = Accepted; value = v; framed = true; table = emptyTable q }) (afterRecord d (Frame q))
     unfolding extentQuantity recordAnswer recordValue recordDone
-    frame-taken e = record-done (frameOf q) (accepted _ _ e) (value-is _ _ e)
+    frame-taken e = record-done (Frame q) (accepted _ _ e) (value-is _ _ e)
 
   -- ---- a record before a frame, and after one
   pub unframed : (a : Answer) → d .framed ≡ false → framedOr d a ≡ Refused Size 0

@@ -12,12 +12,14 @@ use Rattle.layout.specs.Rules.{sizesTaken, wholeAtoms, stridesTaken, layoutChec
 use Rattle.regions.specs.Slots.{slotOf, slotsOf, rectangleHas, occupied, anyFrom, overlaps, rectangleInside}
 use Rattle.regions.specs.Rules.{slotAt, isFilled, rectangleOf, placeChecks, boxInRectangle, slotChecks, regionBoxChecks}
 use Rattle.regions.specs.Calls.{placeAnswer, placeTable}
-use Rattle.records.specs.Texts.{before, split, fieldsOf, withoutEmptyLast, linesOf, isDigit, allDigits, valueAfter as digitsAfter, isEmpty, wellBegun, numberOf}
-use Rattle.records.specs.Records.{andNumber, numbersOf, sameText, frameWord, stallWord, cellWord, shaped, byWord, byFields, recordOf}
+use Rattle.lines.specs.Texts.{before, split, fieldsOf, withoutEmptyLast, linesOf, partLength, sameText}
+use Rattle.lines.specs.Numbers.{isDigit, allDigits, valueAfter as digitsAfter, isEmpty, wellBegun, numberOf, andNumber, listed, inTable, numbersOf}
+use Rattle.lines.specs.Collecting.{withByte, added, lineText, nextLines, collected}
+use Rattle.records.specs.Records.{frameWord, stallWord, cellWord, shaped, frameOf, stallOf, cellOf, byWord, byFields, recordOf, lineRecord}
 use Rattle.script.specs.declared.Row.{Row}
 use Rattle.script.specs.Rows.{framedOr, recordAnswer, recordValue, recordDone, valueAfter, deskAfter}
-use Rattle.script.specs.Sheets.{nextLine, rowOf, rowsAfter, sheet}
-use Rattle.script.specs.Feed.{startSheet, deskOf, longer, kept, withByte, lineRecord, lineEnded, lineRow, fedFrom, fed, finished, andThen, partRows, rowsOfParts}
+use Rattle.script.specs.Sheets.{rowOf, rowsAfter, sheet}
+use Rattle.script.specs.Feed.{startSheet, lineEnded, lineRow, fed, finished, andThen, partFed, rowsOfParts}
 
 -- what rows print: line, answer and value
 abbrev lines : List Row → List (List ℕ)
@@ -76,5 +78,5 @@ pub record Computed : Type 0 where
   pub none : printed [] ≡ []
 
 pub computed : Computed
-unfolding requireAt inOrder leaves elementBytes surfaces elementPosition cubeExtent spanInside spanHas sizeTaken sizesTaken wholeAtoms stridesTaken layoutChecks slotOf slotsOf rectangleHas occupied anyFrom overlaps rectangleInside slotAt isFilled rectangleOf placeChecks boxInRectangle slotChecks regionBoxChecks placeAnswer placeTable before split fieldsOf withoutEmptyLast linesOf isDigit allDigits digitsAfter isEmpty wellBegun numberOf andNumber numbersOf sameText shaped byWord byFields recordOf framedOr recordAnswer recordValue recordDone valueAfter deskAfter nextLine rowOf rowsAfter sheet startSheet deskOf longer kept withByte lineRecord lineEnded lineRow fedFrom fed finished andThen partRows rowsOfParts
+unfolding requireAt inOrder leaves elementBytes surfaces elementPosition cubeExtent spanInside spanHas sizeTaken sizesTaken wholeAtoms stridesTaken layoutChecks slotOf slotsOf rectangleHas taken anyFrom overlaps rectangleInside slotAt isFilled rectangleOf placeChecks boxInRectangle areaChecks placeAnswer placeTable before split fieldsOf withoutEmptyLast linesOf partLength sameText isDigit allDigits digitsAfter isEmpty wellBegun numberOf andNumber listed inTable numbersOf withByte added lineText nextLines collected shaped frameOf stallOf cellOf byWord byFields recordOf lineRecord framedOr recordAnswer recordValue recordDone valueAfter deskAfter rowOf rowsAfter sheet startSheet lineEnded lineRow fed finished andThen partFed rowsOfParts
 computed = record { session = refl; ended = refl; refused = refl; emptied = refl; parts = refl; none = refl }

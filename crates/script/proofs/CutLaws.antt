@@ -1,102 +1,210 @@
--- The rows of an input read byte by byte from a state are those of its lines, the first of them begun by the text that the state holds. By induction on the
--- input. Assumes nothing.
---     rowsFrom      the rows of the rest of an input, byte by byte
---     rows-lines    they are the rows of the lines
---     rows-sheet    from the beginning, those of the whole sheet
-use Prim.Native.Nat.{ℕ}
+-- Parts fed one after another give the rows of the lines of the whole input, the first of them begun by the text that the state holds. By induction on
+-- the calls, then on the parts. Assumes nothing.
+--     fed-open, fed-ended         one call, by whether the part has a newline
+--     feed-ended, feed-open, line-fed     what the code makes of a call
+--     read-within, read-some      how many bytes of a part a call reads
+--     calls-enough                calls past a part's length give nothing more
+--     rows-parts                  the rows of parts, from any state
+--     rows-wrap                   with fewer than 2^64 lines the count does not begin again
+use Prim.Native.Nat.{ℕ, zero, suc, _+_, _-_, _%_, _^_, _≤_, _<_}
+use native.Mathlib.Nat.{le-refl, not-suc-le-zero}
+use native.Mathlib.Decide.{decLe}
+use native.Mathlib.Omega.{arith}
 use mathlib.Core.Path.{_≡_, refl, sym, ap, _∙_}
-use mathlib.Core.Bool.{Bool, true, false, cond}
-use mathlib.Core.List.{List, [], _∷_, _++_, append-nil}
-use lib.Seq.{append-snoc}
-use lib.Dec.{eqb}
+use mathlib.Core.Bool.{true, false}
+use mathlib.Core.List.{List, [], _∷_, _++_, flatten, append-nil}
+use lib.ListN.{length, take, drop, length-drop, drop-of-length-le}
+use lib.Seq.{take-all}
 use borrow.Author.Tests.{ne-eqb}
+use Rattle.lines.specs.declared.Lines.{Lines}
+use Rattle.lines.specs.declared.Collected.{Collected}
+use Rattle.lines.specs.Texts.{partLength}
+use Rattle.lines.specs.Collecting.{added, nextLines, collected}
+use Rattle.lines.proofs.SplitLaws.{partLength-le}
+use Rattle.lines.proofs.HoldLaws.{Holds, holds-next, holds-added, holds-none, holds-some, collected-ended, collected-open}
+use Rattle.lines.proofs.CollectLaws.{linesFrom, linesFrom-end-none, linesFrom-end-some, linesFrom-ended, linesFrom-open}
 use Rattle.records.specs.declared.Record.{Record}
-use Rattle.records.specs.Texts.{before, split, withoutEmptyLast, linesOf}
+use Rattle.records.specs.Records.{lineRecord, recordOf}
+use Rattle.records.proofs.LineLaws.{line-record}
 use Rattle.script.specs.declared.Sheet.{Sheet}
 use Rattle.script.specs.declared.Row.{Row}
-use Rattle.script.specs.Rows.{startDesk}
-use Rattle.script.specs.Sheets.{nextLine, rowOf, rowsAfter, sheet}
-use Rattle.script.specs.Feed.{startSheet, deskOf, withByte, lineEnded, lineRow, finished, andThen}
-use Rattle.script.proofs.HoldLaws.{Holds, holds-start, holds-ended, holds-byte, holds-record, holds-none, holds-some}
+use Rattle.script.specs.declared.Fed.{Fed}
+use Rattle.script.specs.declared.After.{After}
+use Rattle.script.specs.declared.Given.the-variants.{Nothing, Line}
+use Rattle.script.specs.Rows.{Desk, deskAfter}
+use Rattle.script.specs.Sheets.{rowOf, rowsAfter}
+use Rattle.script.specs.Steps.{desk, afterRecord}
+use Rattle.script.specs.Feed.{deskOf, withLines, lineEnded, lineRow, lineFed, fed, finished, andThen, Outcome, partFed, wholePart, rowsOfParts}
 
--- the rows of the rest of an input
-unfoldable pub rowsFrom : Sheet → List ℕ → List Row
-rowsFrom s [] = andThen (finished s .given) []
-rowsFrom s (b ∷ input) = cond (eqb b 10) (lineRow s ∷ rowsFrom (lineEnded s) input) (rowsFrom (withByte s b) input)
+-- ---- one call
 
--- a text before the first of some parts
-abbrev onto : List ℕ → List (List ℕ) → List (List ℕ)
-onto line [] = line ∷ []
-onto line (part ∷ parts) = (line ++ part) ∷ parts
+module _ (s : Sheet) (part : List ℕ) where
+  -- the state with what the part adds to the line
+  abbrev longer : Sheet
+  longer = withLines s (record { count = s .lines .count; line = added (s .lines .line) (take (partLength 10 part) part) })
 
--- ---- the parts of a text
-onto-before : (line : List ℕ) (b : ℕ) (parts : List (List ℕ)) → onto line (before b parts) ≡ onto (line ++ b ∷ []) parts
-unfolding before
-onto-before line b [] = refl
-onto-before line b (part ∷ parts) = ap (λ (l : List ℕ). l ∷ parts) (sym (append-snoc line b part))
+  fed-open : length part ≤ partLength 10 part → fed s part ≡ record { sheet = longer; read = partLength 10 part; given = Nothing }
+  unfolding fed
+  fed-open h = rw (← collected-open (s .lines) part refl refl h)
 
--- an empty line that another follows is kept
-kept-before : (b : ℕ) (line : List ℕ) (parts : List (List ℕ)) → withoutEmptyLast (line ∷ before b parts) ≡ line ∷ withoutEmptyLast (before b parts)
-unfolding withoutEmptyLast before
-kept-before b [] [] = refl
-kept-before b [] (part ∷ parts) = refl
-kept-before b (a ∷ line) parts = refl
+  fed-ended : partLength 10 part < length part → fed s part ≡ lineFed longer (partLength 10 part + 1)
+  unfolding fed
+  fed-ended h = rw (← collected-ended (s .lines) part refl refl h)
 
-kept-line : (line input : List ℕ) → withoutEmptyLast (line ∷ split 10 input) ≡ line ∷ withoutEmptyLast (split 10 input)
-unfolding split withoutEmptyLast
-kept-line [] [] = refl
-kept-line (a ∷ line) [] = refl
-kept-line line (b ∷ input) = go (eqb b 10) line
-  where
-    go : (t : Bool) (l : List ℕ)
-        → withoutEmptyLast (l ∷ cond t ([] ∷ split 10 input) (before b (split 10 input))) ≡ l ∷ withoutEmptyLast (cond t ([] ∷ split 10 input) (before b (split 10 input)))
-    go true [] = refl
-    go true (a ∷ l) = refl
-    go false l = kept-before b l (split 10 input)
+  pub read-within : fed s part .read ≤ length part
+  read-within =
+      elim (decLe (length part) (partLength 10 part)) [
+        | yes h ↦ rw (fed-open h) (partLength-le 10 part)
+        | no f ↦ rw (fed-ended (omega arith)) (omega arith)
+      ]
 
-onto-none : (input : List ℕ) → onto [] (split 10 input) ≡ split 10 input
-unfolding split before
-onto-none [] = refl
-onto-none (b ∷ input) = go (eqb b 10) (split 10 input)
-  where
-    go : (t : Bool) (parts : List (List ℕ)) → onto [] (cond t ([] ∷ parts) (before b parts)) ≡ cond t ([] ∷ parts) (before b parts)
-    go true parts = refl
-    go false [] = refl
-    go false (part ∷ parts) = refl
+  pub read-some : 0 < length part → 0 < fed s part .read
+  read-some p =
+      elim (decLe (length part) (partLength 10 part)) [
+        | yes h ↦ rw (fed-open h) (omega arith)
+        | no f ↦ rw (fed-ended (omega arith)) (omega arith)
+      ]
 
--- ---- the rows
-abbrev linesFrom : List ℕ → List ℕ → List (List ℕ)
-linesFrom line input = withoutEmptyLast (onto line (split 10 input))
+  -- ---- as the code makes it
+  module _ {c : Collected} (e : c ≡ collected (s .lines) part) where
+    pub feed-ended : c .ended ≡ true → lineFed (withLines s (c .lines)) (c .read) ≡ fed s part
+    unfolding fed
+    feed-ended t = rw (← e, t)
+
+    pub feed-open : c .ended ≡ false → _≡_ {A = Fed} (record { sheet = withLines s (c .lines); read = c .read; given = Nothing }) (fed s part)
+    unfolding fed
+    feed-open t = rw (← e, t)
+
+-- a line ended is its record's row, and the state after it
+pub line-fed : (s : Sheet) (read : ℕ) {r : Record} {l : Lines} {a : After} → r ≡ lineRecord (s .lines .line) → l ≡ nextLines (s .lines)
+    → a ≡ afterRecord (desk (s .framed) (s .table)) r
+    → _≡_ {A = Fed}
+    (record {
+      sheet = record { lines = l; framed = a .framed; table = a .table };
+      read = read;
+      given = Line (record { line = l .count; answer = a .answer; value = a .value });
+    })
+    (lineFed s read)
+unfolding lineEnded lineRow rowOf afterRecord
+line-fed s read e f g = rw (g, e, f)
+
+-- ---- calls enough
+
+fed-nothing : (calls : ℕ) (s : Sheet) → partFed calls s [] ≡ record { rows = []; sheet = s }
+unfolding partFed fed collected partLength added andThen
+fed-nothing zero s = refl
+fed-nothing (suc calls) s = fed-nothing calls s
+
+no-bytes : (part : List ℕ) → length part ≤ 0 → part ≡ []
+no-bytes [] h = refl
+no-bytes (b ∷ part) h = absurd (not-suc-le-zero h)
+
+fed-none : (a b : ℕ) (s : Sheet) (part : List ℕ) → length part ≤ 0 → partFed a s part ≡ partFed b s part
+fed-none a b s part h = rw (no-bytes part h) (fed-nothing a s ∙ sym (fed-nothing b s))
+
+pub calls-enough : (a b : ℕ) (s : Sheet) (part : List ℕ) → length part ≤ a → length part ≤ b → partFed a s part ≡ partFed b s part
+unfolding partFed
+calls-enough zero b s part h k = fed-none zero b s part h
+calls-enough (suc a) zero s part h k = fed-none (suc a) zero s part k
+calls-enough (suc a) (suc b) s part h k =
+    elim (decLe (length part) 0) [
+      | yes z ↦ fed-none (suc a) (suc b) s part z
+      | no f ↦ (
+          let g = fed s part in
+          let read : 0 < g .read = read-some s part (omega arith) in
+          let less : length (drop (g .read) part) ≡ length part - g .read = length-drop (g .read) part in
+          ap (λ (o : Outcome). record { rows = andThen (g .given) (o .rows); sheet = o .sheet }) (calls-enough a b (g .sheet) (drop (g .read) part) (omega arith) (omega arith))
+          )
+    ]
+
+-- ---- the rows of parts
+
+-- the number after a line's: after 2^64 − 1 comes 0
+abbrev pub next : ℕ → ℕ
+next n = (n + 1) % 2 ^ 64
+
+-- the rows of lines, counted as the code counts them
+unfoldable pub rowsFrom : ℕ → Desk → List (List ℕ) → List Row
+rowsFrom n d [] = []
+rowsFrom n d (line ∷ lines) = rowOf (next n) d (recordOf line) ∷ rowsFrom (next n) (deskAfter d (recordOf line)) lines
+
+-- the rows of what is left of the input, where the line in progress is begun by a text
+abbrev pub rowsIn : Sheet → List ℕ → List ℕ → List Row
+rowsIn s text input = rowsFrom (s .lines .count) (deskOf s) (linesFrom text input)
+
+-- a line that ended, and the lines behind it
+row-first : (s : Sheet) (text : List ℕ) (lines : List (List ℕ)) → Holds (s .lines .line) text
+    → lineRow s ∷ rowsFrom (lineEnded s .lines .count) (deskOf (lineEnded s)) lines ≡ rowsFrom (s .lines .count) (deskOf s) (text ∷ lines)
+unfolding lineRow lineEnded nextLines rowsFrom
+row-first s text lines o = rw (line-record (s .lines .line) text o)
+
+module _ (more : List ℕ) (tail : Sheet → List Row) (ends : (t : Sheet) (text : List ℕ) → Holds (t .lines .line) text → tail t ≡ rowsIn t text more) where
+  abbrev joined : Outcome → List Row
+  joined o = o .rows ++ tail (o .sheet)
+
+  -- a call, and what `then` says of the calls after it
+  module _ (calls : ℕ) (s : Sheet) (text part : List ℕ) (o : Holds (s .lines .line) text) (h : length part ≤ suc calls)
+      (then : (t : Sheet) (line left : List ℕ) → Holds (t .lines .line) line → length left ≤ calls → joined (partFed calls t left) ≡ rowsIn t line (left ++ more)) where
+    abbrev n : ℕ
+    n = partLength 10 part
+
+    held : Holds (longer s part .lines .line) (text ++ take n part)
+    held = holds-added (take n part) (s .lines .line) text o
+
+    -- the calls after one that gave f
+    abbrev after : Fed → List Row
+    after f = andThen (f .given) (partFed calls (f .sheet) (drop (f .read) part) .rows) ++ tail (partFed calls (f .sheet) (drop (f .read) part) .sheet)
+
+    call-is : (f : Fed) → fed s part ≡ f → joined (partFed (suc calls) s part) ≡ after f
+    unfolding partFed
+    call-is f e = ap after e
+
+    open-rows : length part ≤ n → joined (partFed (suc calls) s part) ≡ rowsIn s text (part ++ more)
+    unfolding andThen
+    open-rows l =
+        let none : drop n part ≡ [] = drop-of-length-le part l in
+        let all : take n part ≡ part = take-all n part l in
+        call-is _ (fed-open s part l)
+        ∙ then (longer s part) (text ++ take n part) (drop n part) held (rw none (omega arith))
+        ∙ ap (λ (l : List ℕ). rowsIn s (text ++ take n part) (l ++ more)) none
+        ∙ ap (λ (l : List ℕ). rowsIn s (text ++ l) more) all
+        ∙ ap (rowsFrom (s .lines .count) (deskOf s)) (sym (linesFrom-open text part more l))
+
+    ended-rows : n < length part → joined (partFed (suc calls) s part) ≡ rowsIn s text (part ++ more)
+    unfolding andThen lineEnded nextLines
+    ended-rows l =
+        let t = longer s part in
+        let left = drop (n + 1) part in
+        call-is _ (fed-ended s part l)
+        ∙ ap (λ (rows : List Row). lineRow t ∷ rows) (then (lineEnded t) [] left (holds-next (t .lines .line) (text ++ take n part) held) (omega (arith, length-drop (n + 1) part)))
+        ∙ row-first t (text ++ take n part) (linesFrom [] (left ++ more)) held
+        ∙ ap (rowsFrom (s .lines .count) (deskOf s)) (sym (linesFrom-ended text part more l))
+
+  part-rows : (calls : ℕ) (s : Sheet) (text part : List ℕ) → Holds (s .lines .line) text → length part ≤ calls → joined (partFed calls s part) ≡ rowsIn s text (part ++ more)
+  unfolding partFed
+  part-rows zero s text part o h = ends s text o ∙ rw (no-bytes part h)
+  part-rows (suc calls) s text part o h =
+      elim (decLe (length part) (partLength 10 part)) [
+        | yes l ↦ open-rows calls s text part o h (part-rows calls) l
+        | no f ↦ ended-rows calls s text part o h (part-rows calls) (omega arith)
+      ]
 
 -- the end of the input
-rows-end : (s : Sheet) (line : List ℕ) → Holds s line → andThen (finished s .given) [] ≡ rowsAfter (s .lines) (deskOf s) (withoutEmptyLast (line ∷ []))
-unfolding finished andThen rowsAfter withoutEmptyLast lineRow
-rows-end s [] o = rw (holds-none s o)
-rows-end s (b ∷ line) o =
-    rw (ne-eqb (s .length) 0 (holds-some s b line o)) (ap (λ (r : Record). rowOf (nextLine (s .lines)) (deskOf s) r ∷ []) (holds-record s (b ∷ line) o))
+rows-end : (s : Sheet) (text : List ℕ) → Holds (s .lines .line) text → andThen (finished s .given) [] ≡ rowsIn s text []
+unfolding finished andThen rowsFrom
+rows-end s [] o = rw (holds-none (s .lines .line) o, linesFrom-end-none)
+rows-end s (b ∷ text) o =
+    rw (ne-eqb (s .lines .line .length) 0 (holds-some (s .lines .line) b text o), linesFrom-end-some b text) (row-first s (b ∷ text) [] o)
 
--- a newline
-rows-newline : (s : Sheet) (line input : List ℕ) → Holds s line
-    → rowsFrom (lineEnded s) input ≡ rowsAfter (lineEnded s .lines) (deskOf (lineEnded s)) (linesFrom [] input)
-    → lineRow s ∷ rowsFrom (lineEnded s) input ≡ rowsAfter (s .lines) (deskOf s) (withoutEmptyLast ((line ++ []) ∷ split 10 input))
-unfolding lineRow lineEnded deskOf rowsAfter
-rows-newline s line input o h =
-    rw (append-nil line, kept-line line input, h, onto-none input, holds-record s line o)
+pub rows-parts : (parts : List (List ℕ)) (s : Sheet) (text : List ℕ) → Holds (s .lines .line) text → rowsOfParts s parts ≡ rowsIn s text (flatten parts)
+unfolding rowsOfParts flatten
+rows-parts [] s text o = rows-end s text o
+rows-parts (part ∷ parts) s text o =
+    part-rows (flatten parts) (λ (t : Sheet). rowsOfParts t parts) (rows-parts parts) (length part) s text part o (le-refl (length part))
 
-pub rows-lines : (input : List ℕ) (s : Sheet) (line : List ℕ) → Holds s line
-    → rowsFrom s input ≡ rowsAfter (s .lines) (deskOf s) (withoutEmptyLast (onto line (split 10 input)))
-unfolding rowsFrom split withByte deskOf
-rows-lines [] s line o = rows-end s line o ∙ ap (λ (l : List ℕ). rowsAfter (s .lines) (deskOf s) (withoutEmptyLast (l ∷ []))) (sym (append-nil line))
-rows-lines (b ∷ input) s line o =
-    go (eqb b 10) (rows-lines input (lineEnded s) [] (holds-ended s line o)) (rows-lines input (withByte s b) (line ++ b ∷ []) (holds-byte s line b o))
-  where
-    go : (t : Bool) → rowsFrom (lineEnded s) input ≡ rowsAfter (lineEnded s .lines) (deskOf (lineEnded s)) (linesFrom [] input)
-        → rowsFrom (withByte s b) input ≡ rowsAfter (withByte s b .lines) (deskOf (withByte s b)) (linesFrom (line ++ b ∷ []) input)
-        → cond t (lineRow s ∷ rowsFrom (lineEnded s) input) (rowsFrom (withByte s b) input)
-        ≡ rowsAfter (s .lines) (deskOf s) (withoutEmptyLast (onto line (cond t ([] ∷ split 10 input) (before b (split 10 input)))))
-    go true h k = rows-newline s line input o h
-    go false h k = k ∙ ap (λ (l : List (List ℕ)). rowsAfter (s .lines) (deskOf s) (withoutEmptyLast l)) (sym (onto-before line b (split 10 input)))
-
-pub rows-sheet : (input : List ℕ) → rowsFrom startSheet input ≡ sheet input
-unfolding sheet linesOf startSheet deskOf
-rows-sheet input = rows-lines input startSheet [] holds-start ∙ ap (λ (l : List (List ℕ)). rowsAfter 0 startDesk (withoutEmptyLast l)) (onto-none input)
+pub rows-wrap : (lines : List (List ℕ)) (n : ℕ) (d : Desk) → n + length lines < 2 ^ 64 → rowsFrom n d lines ≡ rowsAfter n d lines
+unfolding rowsFrom rowsAfter
+rows-wrap [] n d h = refl
+rows-wrap (line ∷ lines) n d h =
+    let e : (n + 1) % 2 ^ 64 ≡ n + 1 = omega arith in
+    rw e (ap (λ (rows : List Row). rowOf (n + 1) d (recordOf line) ∷ rows) (rows-wrap lines (n + 1) (deskAfter d (recordOf line)) (omega arith)))

@@ -30,14 +30,14 @@ framedOr d a = cond (d .framed) a (Refused Size 0)
 
 -- the refusal, or accepted: no buffer is at hand, so 5 isn't checked
 unfoldable pub recordAnswer : Desk → Record → Answer
-recordAnswer d (Frame w h c p line surface start) = inOrder (layoutChecks (layoutOf w h c p line surface start))
+recordAnswer d (Frame q) = inOrder (layoutChecks q)
 recordAnswer d (Stall slot w0 h0 w h) = framedOr d (placeAnswer (d .table) slot (rectangle w0 h0 w h))
 recordAnswer d (Cell slot c h w) = framedOr d (inOrder (regionBoxChecks (d .table .layout) (slotsOf (d .table)) slot (oneElement c h w)))
 recordAnswer d Unreadable = Refused ScriptLine 0
 
 -- extent, cell count of the stall, byte position
 unfoldable pub recordValue : Desk → Record → ℕ
-recordValue d (Frame w h c p line surface start) = cubeExtent (layoutOf w h c p line surface start)
+recordValue d (Frame q) = cubeExtent q
 recordValue d (Stall slot w0 h0 w h) = w * h * d .table .layout .channels
 recordValue d (Cell slot c h w) =
     let g = rectangleAt (slotsOf (d .table)) slot in
@@ -46,7 +46,7 @@ recordValue d Unreadable = 0
 
 -- an accepted frame empties the slots, an accepted stall is placed
 unfoldable pub recordDone : Desk → Record → Desk
-recordDone d (Frame w h c p line surface start) = record { framed = true; table = emptyTable (layoutOf w h c p line surface start) }
+recordDone d (Frame q) = record { framed = true; table = emptyTable q }
 recordDone d (Stall slot w0 h0 w h) = record { framed = d .framed; table = placeTable (d .table) slot (rectangle w0 h0 w h) }
 recordDone d (Cell slot c h w) = d
 recordDone d Unreadable = d

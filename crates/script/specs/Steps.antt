@@ -1,29 +1,15 @@
--- What the code goes by, between a part of the input and its rows: no public promise rests on it, and proofs/StepLaws.antt proves that it comes to
--- `fed`. Assumes nothing.
-use Prim.Native.Nat.{ℕ, _+_}
-use mathlib.Core.Bool.{Bool, true, false, cond}
-use mathlib.Core.List.{List, [], _∷_}
-use lib.Dec.{eqb}
+-- What the code goes by, between a record and its row: no public promise rests on it. Assumes nothing.
+use Prim.Native.Nat.{ℕ}
+use mathlib.Core.Bool.{Bool}
 use Rattle.refusal.specs.declared.Refusal.{Refusal}
 use Rattle.refusal.specs.declared.Answer.the-variants.{Refused}
 use Rattle.regions.specs.declared.RegionTable.{RegionTable}
 use Rattle.records.specs.declared.Record.{Record}
-use Rattle.script.specs.declared.Scanned.{Scanned}
 use Rattle.script.specs.declared.After.{After}
 use Rattle.script.specs.Rows.{Desk, recordAnswer, valueAfter, deskAfter}
-use Rattle.script.specs.Feed.{longer, kept}
 
 abbrev pub desk : Bool → RegionTable → Desk
 desk framed table = record { framed = framed; table = table }
-
--- the line in progress after a part
-unfoldable pub scannedFrom : ℕ → ℕ → List ℕ → List ℕ → Scanned
-scannedFrom read n bytes [] = record { bytes = bytes; length = n; read = read; ended = false }
-scannedFrom read n bytes (b ∷ part) =
-    cond (eqb b 10) (record { bytes = bytes; length = n; read = read + 1; ended = true }) (scannedFrom (read + 1) (longer n) (kept n bytes b) part)
-
-abbrev pub scanned : ℕ → List ℕ → List ℕ → Scanned
-scanned n bytes part = scannedFrom 0 n bytes part
 
 -- what a record answers, its value, and the desk after it
 unfoldable pub afterRecord : Desk → Record → After

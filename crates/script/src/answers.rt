@@ -29,7 +29,7 @@ fn refused(framed: bool, table: RegionTable, refusal: Refusal, at: usize) -> Aft
 
 // A frame: its extent. Accepted, it empties the slots.
 fn frame(framed: bool, table: RegionTable, layout: CubeLayout) -> After
-    ensures { λ r. ⌜ r ≡ afterRecord (desk framed table) (Frame (layout .width) (layout .height) (layout .channels) (layout .precision) (layout .line) (layout .surface) (layout .start)) ⌝ }
+    ensures { λ r. ⌜ r ≡ afterRecord (desk framed table) (Frame layout) ⌝ }
 {
     match layout::extent(layout) {
         Quantity::Denied(refusal, at) => refused(framed, table, refusal, at),
@@ -121,18 +121,7 @@ pub(crate) fn after_record(framed: bool, table: RegionTable, item: Record) -> Af
     ensures { λ r. ⌜ r ≡ afterRecord (desk framed table) item ⌝ }
 {
     match item {
-        Record::Frame(width, height, channels, precision, line, surface, start) => {
-            let layout = CubeLayout {
-                width: width,
-                height: height,
-                channels: channels,
-                precision: precision,
-                line: line,
-                surface: surface,
-                start: start,
-            };
-            frame(framed, table, layout)
-        }
+        Record::Frame(layout) => frame(framed, table, layout),
         Record::Stall(slot, column, row, columns, rows) => stall(
             framed,
             table,

@@ -1,20 +1,16 @@
 // The sheet's input, fed in parts of any size: each line gets a row (scope paper, "The sheet program").
 mod answers;
-mod text;
 
 ghost use mathlib.Core.Path.{_≡_};
 ghost use Rattle.script.specs.Feed.{startSheet, lineFed, fed, finished};
-ghost use Rattle.script.specs.Sheets.{nextLine};
 use layout::CubeLayout;
+use lines::Lines;
 use refusal::Answer;
 use regions::RegionTable;
 
-// The state between two parts of the input: how many lines have ended; the length of the line in progress, held at 121, and its first bytes; whether a
-// frame was accepted, and its region table.
+// The state between two parts of the input: the lines that ended and the one in progress; whether a frame was accepted, and its region table.
 pub struct Sheet {
-    pub lines: u64,
-    pub length: u32,
-    pub bytes: [u8; 120],
+    pub lines: Lines,
     pub framed: bool,
     pub table: RegionTable,
 }
@@ -39,14 +35,6 @@ pub struct Fed {
     pub given: Given,
 }
 
-// The line in progress after a part of the input: its bytes and length, how many bytes of the part were read, and whether the last was a newline.
-struct Scanned {
-    bytes: [u8; 120],
-    length: u32,
-    read: usize,
-    ended: bool,
-}
-
 // What a record answers, its value, and the desk after it.
 struct After {
     answer: Answer,
@@ -69,45 +57,35 @@ pub fn begin() -> Sheet
         start: 0,
     };
     let table = regions::empty(layout);
-    let bytes = [0u8; 120];
+    let lines = lines::begin();
     Sheet {
-        lines: 0,
-        length: 0,
-        bytes: bytes,
+        lines: lines,
         framed: false,
         table: table,
     }
-}
-
-// The number after a line's.
-fn next_line(n: u64) -> u64
-    ensures { λ r. ⌜ r ≡ nextLine n ⌝ }
-{
-    if n < 18446744073709551615 { n + 1 } else { 0 }
 }
 
 // The line in progress ends: its row, and the state after it.
 fn end_line(sheet: Sheet, read: usize) -> Fed
     ensures { λ r. ⌜ r ≡ lineFed sheet read ⌝ }
 {
-    let item = text::line_record(sheet);
-    let number = next_line(sheet.lines);
-    let before = sheet.table;
-    let a = answers::after_record(sheet.framed, before, item);
-    let bytes = sheet.bytes;
+    let before = sheet.lines;
+    let line = before.line;
+    let item = records::of_line(line);
+    let lines = lines::next(before);
+    let desk = sheet.table;
+    let a = answers::after_record(sheet.framed, desk, item);
     let table = a.table;
     let answer = a.answer;
-    let next = Sheet {
-        lines: number,
-        length: 0,
-        bytes: bytes,
-        framed: a.framed,
-        table: table,
-    };
     let row = Row {
-        line: number,
+        line: lines.count,
         answer: answer,
         value: a.value,
+    };
+    let next = Sheet {
+        lines: lines,
+        framed: a.framed,
+        table: table,
     };
     Fed {
         sheet: next,
@@ -120,23 +98,21 @@ fn end_line(sheet: Sheet, read: usize) -> Fed
 pub fn feed(sheet: Sheet, part: &[u8]) -> Fed
     ensures { λ r. ⌜ r ≡ fed sheet (now (part .entry)) ⌝ }
 {
-    let before = sheet.bytes;
-    let s = text::scan(before, sheet.length, part);
-    let bytes = s.bytes;
+    let before = sheet.lines;
+    let c = lines::collect(before, part);
+    let lines = c.lines;
     let table = sheet.table;
     let next = Sheet {
-        lines: sheet.lines,
-        length: s.length,
-        bytes: bytes,
+        lines: lines,
         framed: sheet.framed,
         table: table,
     };
-    if s.ended {
-        return end_line(next, s.read);
+    if c.ended {
+        return end_line(next, c.read);
     }
     Fed {
         sheet: next,
-        read: s.read,
+        read: c.read,
         given: Given::Nothing,
     }
 }
@@ -145,7 +121,9 @@ pub fn feed(sheet: Sheet, part: &[u8]) -> Fed
 pub fn finish(sheet: Sheet) -> Fed
     ensures { λ r. ⌜ r ≡ finished sheet ⌝ }
 {
-    if sheet.length == 0 {
+    let lines = sheet.lines;
+    let line = lines.line;
+    if line.length == 0 {
         return Fed {
             sheet: sheet,
             read: 0,

@@ -7,9 +7,12 @@ use Rattle.script.proofs.begin.Tie as tie
 empty-requires : tie.Need-empty-requires
 empty-requires c κs = search needs
 
+begin-requires : tie.Need-begin-requires
+begin-requires c κs = search needs
+
 returns : tie.Need-returns
 unfolding startSheet
-returns c = rw (c .empty .ensures)
+returns c = rw (c .before .empty .ensures, c .begin .ensures)
 
 pub begin-spec : {M : Type 1} → statement M
-begin-spec = tie.close (tie.spec empty-requires returns)
+begin-spec = tie.close (tie.spec empty-requires begin-requires returns)

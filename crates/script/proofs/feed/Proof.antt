@@ -1,25 +1,27 @@
--- `script::feed` meets its contract: the line scanned, and ended if a newline came. Assumes nothing.
+-- `script::feed` meets its contract: the line collected, and ended if a newline came. Assumes nothing.
 use mathlib.Core.Path.{_∙_}
-use Rattle.script.proofs.StepLaws.{fed-ended, fed-open}
+use Rattle.script.proofs.CutLaws.{feed-ended, feed-open}
 use borrow.Author.Needs.{needs}
 use Rattle.script.proofs.feed.Statement.{statement}
 use Rattle.script.proofs.feed.Tie as tie
 
-scan-requires : tie.Need-scan-requires
-scan-requires c κs = search needs
+collect-requires : tie.Need-collect-requires
+collect-requires c κs = search needs
 
 end-line-requires : tie.Need-end-line-requires
 end-line-requires c κs = search needs
 
 returns : tie.Need-returns
-returns c = let s = c .before .before .before .before in
-    let a = s .before .before .before .args in
-    c .end-line .ensures ∙ fed-ended (a .sheet) (a .part .now) (s .scan .ensures) (c .before .if1 .taken)
+returns c =
+    let k = c .before .before .before .before in
+    let a = k .before .before .before .args in
+    c .end-line .ensures ∙ feed-ended (a .sheet) (a .part .now) (k .collect .ensures) (c .before .if1 .taken)
 
 returns-2 : tie.Need-returns-2
-returns-2 c = let s = c .before .before .before in
-    let a = s .before .before .before .args in
-    fed-open (a .sheet) (a .part .now) (s .scan .ensures) (c .if1 .left)
+returns-2 c =
+    let k = c .before .before .before in
+    let a = k .before .before .before .args in
+    feed-open (a .sheet) (a .part .now) (k .collect .ensures) (c .if1 .left)
 
 pub feed-spec : {M : Type 1} → statement M
-feed-spec = tie.close (tie.spec scan-requires end-line-requires returns returns-2)
+feed-spec = tie.close (tie.spec collect-requires end-line-requires returns returns-2)
