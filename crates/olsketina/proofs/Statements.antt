@@ -78,7 +78,7 @@ place-alone l n g long p out = go (placeAnswer (tableAt l 0) n g) refl
     go Accepted e = subst (λ (t : RegionTable). word (withTable t 0 l) p ≡ word l p) (place-left (tableAt l 0) n g e) (slot-alone l n (placedRegion g) long p out)
     go (Refused r i) e = refl
 
-pub sheet-back : (s : Sheet) (l : List ℕ) → length (s .table .slots) ≡ 16 → length l ≡ 91 → sheetFrom (withSheet s l) (s .bytes) ≡ s
+pub sheet-back : (s : Sheet) (l : List ℕ) → length (s .table .slots) ≡ 16 → length l ≡ 91 → sheetFrom (withSheet s l) (s .lines .line .bytes) ≡ s
 unfolding sheetFrom withSheet progressWords
 sheet-back s l slots long =
     let w = progressWords s (word l 3) in
@@ -86,7 +86,7 @@ sheet-back s l slots long =
     let fits : 4 + 87 ≤ length m = omega (arith, withWords-length w 0 0 l, long) in
     let first : (j : ℕ) → j < 4 → word (withTable (s .table) 4 m) j ≡ getD w j 0 =
     λ j h. table-before (s .table) 4 m j h ∙ ap (λ (p : ℕ). word m p) (omega arith) ∙ withWords-at w 0 0 l (omega (arith, long)) j h in
-    let joined : s .lines % 4294967296 + 4294967296 * (s .lines / 4294967296) ≡ s .lines = omega arith in
+    let joined : s .lines .count % 4294967296 + 4294967296 * (s .lines .count / 4294967296) ≡ s .lines .count = omega arith in
     rw (
       decoded (s .table) 4 m slots fits,
       first 0 (omega arith),

@@ -13,11 +13,11 @@ use Rattle.olsketina.specs.Tables.{says, tableAt, withWords, flagWord, w
 -- lines ended (low word, high word), length of the line in progress, whether a frame was accepted, then the table's 87 words; beside it the line's first bytes
 unfoldable pub sheetFrom : List ℕ → List ℕ → Sheet
 sheetFrom l text =
-    record { lines = word l 0 + 4294967296 * word l 1; length = word l 2; bytes = text; framed = says (word l 3); table = tableAt l 4 }
+    record { lines = record { count = word l 0 + 4294967296 * word l 1; line = record { length = word l 2; bytes = text } }; framed = says (word l 3); table = tableAt l 4 }
 
 -- a state's first four words, over an old fourth one
 unfoldable pub progressWords : Sheet → ℕ → List ℕ
-progressWords s old = s .lines % 4294967296 ∷ s .lines / 4294967296 ∷ s .length ∷ flagWord (s .framed) old ∷ []
+progressWords s old = s .lines .count % 4294967296 ∷ s .lines .count / 4294967296 ∷ s .lines .line .length ∷ flagWord (s .framed) old ∷ []
 
 -- a state's words, without its text
 unfoldable pub withSheet : Sheet → List ℕ → List ℕ
@@ -31,6 +31,6 @@ rowWords (Line row) = 1 ∷ row .line ∷ answerCode (row .answer) ∷ answerPla
 -- its kind, then its numbers, the rest 0
 unfoldable pub recordWords : Record → List ℕ
 recordWords Unreadable = 0 ∷ 0 ∷ 0 ∷ 0 ∷ 0 ∷ 0 ∷ 0 ∷ 0 ∷ []
-recordWords (Frame w h c p line surface start) = 1 ∷ w ∷ h ∷ c ∷ p ∷ line ∷ surface ∷ start ∷ []
+recordWords (Frame q) = 1 ∷ q .width ∷ q .height ∷ q .channels ∷ q .precision ∷ q .line ∷ q .surface ∷ q .start ∷ []
 recordWords (Stall slot w0 h0 w h) = 2 ∷ slot ∷ w0 ∷ h0 ∷ w ∷ h ∷ 0 ∷ 0 ∷ []
 recordWords (Cell slot c h w) = 3 ∷ slot ∷ c ∷ h ∷ w ∷ 0 ∷ 0 ∷ 0 ∷ []

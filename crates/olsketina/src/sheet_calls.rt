@@ -19,10 +19,12 @@ pub extern "C" fn olsketina_records_read(line: &[u8], words: &mut [u32; 8])
 #[no_mangle]
 pub extern "C" fn olsketina_script_begin(state: &mut [u32; 91], text: &mut [u8; 120])
     ensures words { λ _. ⌜ now (state .exit) ≡ withSheet startSheet (now (state .entry)) ⌝ }
-    ensures line { λ _. ⌜ now (text .exit) ≡ startSheet .bytes ⌝ }
+    ensures line { λ _. ⌜ now (text .exit) ≡ startSheet .lines .line .bytes ⌝ }
 {
     let sheet = script::begin();
-    let bytes = sheet.bytes;
+    let lines = sheet.lines;
+    let line = lines.line;
+    let bytes = line.bytes;
     *text = bytes;
     sheet_words::put_sheet(state, sheet);
 }
@@ -30,11 +32,13 @@ pub extern "C" fn olsketina_script_begin(state: &mut [u32; 91], text: &mut [u8; 
 // Stores what a call gave: the state, its text and the row.
 fn put_fed(given: Fed, state: &mut [u32; 91], text: &mut [u8; 120], row: &mut [u64; 5])
     ensures words { λ _. ⌜ now (state .exit) ≡ withSheet (given .sheet) (now (state .entry)) ⌝ }
-    ensures line { λ _. ⌜ now (text .exit) ≡ given .sheet .bytes ⌝ }
+    ensures line { λ _. ⌜ now (text .exit) ≡ given .sheet .lines .line .bytes ⌝ }
     ensures ended { λ _. ⌜ now (row .exit) ≡ rowWords (given .given) ⌝ }
 {
     let sheet = given.sheet;
-    let bytes = sheet.bytes;
+    let lines = sheet.lines;
+    let line = lines.line;
+    let bytes = line.bytes;
     let ended = given.given;
     *text = bytes;
     *row = sheet_words::row_words(ended);
@@ -51,7 +55,7 @@ pub extern "C" fn olsketina_script_feed(
 ) -> usize
     ensures read { λ r. ⌜ r ≡ fed (sheetFrom (now (state .entry)) (now (text .entry))) (now (part .entry)) .read ⌝ }
     ensures words { λ r. ⌜ now (state .exit) ≡ withSheet (fed (sheetFrom (now (state .entry)) (now (text .entry))) (now (part .entry)) .sheet) (now (state .entry)) ⌝ }
-    ensures line { λ r. ⌜ now (text .exit) ≡ fed (sheetFrom (now (state .entry)) (now (text .entry))) (now (part .entry)) .sheet .bytes ⌝ }
+    ensures line { λ r. ⌜ now (text .exit) ≡ fed (sheetFrom (now (state .entry)) (now (text .entry))) (now (part .entry)) .sheet .lines .line .bytes ⌝ }
     ensures ended { λ r. ⌜ now (row .exit) ≡ rowWords (fed (sheetFrom (now (state .entry)) (now (text .entry))) (now (part .entry)) .given) ⌝ }
 {
     let before = sheet_words::sheet_of(state, text);
@@ -68,7 +72,7 @@ pub extern "C" fn olsketina_script_finish(
     row: &mut [u64; 5],
 )
     ensures words { λ _. ⌜ now (state .exit) ≡ withSheet (finished (sheetFrom (now (state .entry)) (now (text .entry))) .sheet) (now (state .entry)) ⌝ }
-    ensures line { λ _. ⌜ now (text .exit) ≡ finished (sheetFrom (now (state .entry)) (now (text .entry))) .sheet .bytes ⌝ }
+    ensures line { λ _. ⌜ now (text .exit) ≡ finished (sheetFrom (now (state .entry)) (now (text .entry))) .sheet .lines .line .bytes ⌝ }
     ensures ended { λ _. ⌜ now (row .exit) ≡ rowWords (finished (sheetFrom (now (state .entry)) (now (text .entry))) .given) ⌝ }
 {
     let before = sheet_words::sheet_of(state, text);

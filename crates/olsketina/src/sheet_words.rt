@@ -3,6 +3,8 @@ ghost use mathlib.Core.Path.{_≡_};
 ghost use Prim.Native.Nat.{_+_, _*_};
 ghost use Rattle.olsketina.specs.Sheets.{sheetFrom, withSheet, rowWords, recordWords};
 use crate::tables;
+use lines::Line;
+use lines::Lines;
 use records::Record;
 use script::Given;
 use script::Sheet;
@@ -20,10 +22,16 @@ pub(crate) fn sheet_of(words: &[u32; 91], text: &[u8; 120]) -> Sheet
 {
     let bytes = *text;
     let table = tables::table_at(words, 4);
-    Sheet {
-        lines: joined(words[0], words[1]),
+    let line = Line {
         length: words[2],
         bytes: bytes,
+    };
+    let lines = Lines {
+        count: joined(words[0], words[1]),
+        line: line,
+    };
+    Sheet {
+        lines: lines,
         framed: words[3] != 0,
         table: table,
     }
@@ -33,11 +41,13 @@ pub(crate) fn sheet_of(words: &[u32; 91], text: &[u8; 120]) -> Sheet
 pub(crate) fn put_sheet(words: &mut [u32; 91], sheet: Sheet)
     ensures { λ _. ⌜ now (words .exit) ≡ withSheet sheet (now (words .entry)) ⌝ }
 {
+    let lines = sheet.lines;
+    let line = lines.line;
     let table = sheet.table;
     let old = words[3];
-    words[0] = (sheet.lines % 4294967296) as u32;
-    words[1] = (sheet.lines / 4294967296) as u32;
-    words[2] = sheet.length;
+    words[0] = (lines.count % 4294967296) as u32;
+    words[1] = (lines.count / 4294967296) as u32;
+    words[2] = line.length;
     words[3] = tables::flag_word(sheet.framed, old);
     tables::put_table(words, 4, table);
 }
@@ -67,7 +77,16 @@ pub(crate) fn record_words(item: Record) -> [u32; 8]
 {
     match item {
         Record::Unreadable => [0u32; 8],
-        Record::Frame(w, h, c, p, line, surface, start) => [1, w, h, c, p, line, surface, start],
+        Record::Frame(q) => [
+            1,
+            q.width,
+            q.height,
+            q.channels,
+            q.precision,
+            q.line,
+            q.surface,
+            q.start,
+        ],
         Record::Stall(slot, w0, h0, w, h) => [2, slot, w0, h0, w, h, 0, 0],
         Record::Cell(slot, c, h, w) => [3, slot, c, h, w, 0, 0, 0],
     }

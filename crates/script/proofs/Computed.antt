@@ -1,7 +1,7 @@
 -- Sheets, computed: the paper's session, and records that are refused. Assumes nothing.
 use Prim.Native.Nat.{ℕ}
 use mathlib.Core.Path.{_≡_, refl}
-use mathlib.Core.List.{List, [], _∷_, _++_, map}
+use mathlib.Core.List.{List, [], _∷_, _++_, map, flatten}
 use Rattle.refusal.specs.Codes.{answerCode}
 use Rattle.refusal.specs.Checks.{requireAt, inOrder, leaves}
 use Rattle.elements.specs.Bytes.{elementBytes}
@@ -16,7 +16,9 @@ use Rattle.lines.specs.Texts.{before, split, fieldsOf, withoutEmptyLast, linesO
 use Rattle.lines.specs.Numbers.{isDigit, allDigits, valueAfter as digitsAfter, isEmpty, wellBegun, numberOf, andNumber, listed, inTable, numbersOf}
 use Rattle.lines.specs.Collecting.{withByte, added, lineText, nextLines, collected}
 use Rattle.records.specs.Records.{frameWord, stallWord, cellWord, shaped, frameOf, stallOf, cellOf, byWord, byFields, recordOf, lineRecord}
+use Rattle.lines.specs.Digits.{leadingIn, digits, numeral}
 use Rattle.script.specs.declared.Row.{Row}
+use Rattle.script.specs.Output.{header, fieldsText, rowText, output}
 use Rattle.script.specs.Rows.{framedOr, recordAnswer, recordValue, recordDone, valueAfter, deskAfter}
 use Rattle.script.specs.Sheets.{rowOf, rowsAfter, sheet}
 use Rattle.script.specs.Feed.{startSheet, lineEnded, lineRow, fed, finished, andThen, partFed, rowsOfParts}
@@ -56,11 +58,14 @@ unplaced = cellWord ++ 9 ∷ 53 ∷ 9 ∷ 48 ∷ 9 ∷ 48 ∷ 9 ∷ 48 ∷ 10 �
 abbrev outside : List ℕ
 outside = cellWord ++ 9 ∷ 48 ∷ 9 ∷ 48 ∷ 9 ∷ 48 ∷ 9 ∷ 50 ∷ 10 ∷ []
 
--- stall 1 2 1 1 1, and its cell 1 33 0 0: element (33, 1, 2) of the frame
-abbrev second : List ℕ
-second = stallWord ++ 9 ∷ 49 ∷ 9 ∷ 50 ∷ 9 ∷ 49 ∷ 9 ∷ 49 ∷ 9 ∷ 49 ∷ 10 ∷ cellWord ++ 9 ∷ 49 ∷ 9 ∷ 51 ∷ 51 ∷ 9 ∷ 48 ∷ 9 ∷ 48 ∷ 10 ∷ []
+-- the paper's output, byte by byte
+abbrev rows : List ℕ
+rows =
+    49 ∷ 9 ∷ 48 ∷ 9 ∷ 52 ∷ 56 ∷ 48 ∷ 10 ∷ 50 ∷ 9 ∷ 48 ∷ 9 ∷ 49 ∷ 54 ∷ 48 ∷ 10 ∷ 51 ∷ 9 ∷ 49 ∷ 48 ∷ 9 ∷ 48 ∷ 10 ∷ 52 ∷ 9 ∷ 48 ∷ 9 ∷ 52 ∷ 49 ∷ 55 ∷ 10 ∷ []
 
 pub record Computed : Type 0 where
+  -- the paper's session, to its text
+  pub text : output (frame ++ stall ++ overlapping ++ cell ++ 10 ∷ []) ≡ header ++ rows
   pub session : printed (frame ++ stall ++ overlapping ++ cell) ≡ (1 ∷ 0 ∷ 480 ∷ []) ∷ (2 ∷ 0 ∷ 160 ∷ []) ∷ (3 ∷ 10 ∷ 0 ∷ []) ∷ (4 ∷ 0 ∷ 417 ∷ []) ∷ []
   -- a last newline adds no line
   pub ended : printed (frame ++ stall ++ overlapping ++ cell ++ 10 ∷ []) ≡ (1 ∷ 0 ∷ 480 ∷ []) ∷ (2 ∷ 0 ∷ 160 ∷ []) ∷ (3 ∷ 10 ∷ 0 ∷ []) ∷ (4 ∷ 0 ∷ 417 ∷ []) ∷ []
@@ -78,5 +83,5 @@ pub record Computed : Type 0 where
   pub none : printed [] ≡ []
 
 pub computed : Computed
-unfolding requireAt inOrder leaves elementBytes surfaces elementPosition cubeExtent spanInside spanHas sizeTaken sizesTaken wholeAtoms stridesTaken layoutChecks slotOf slotsOf rectangleHas taken anyFrom overlaps rectangleInside slotAt isFilled rectangleOf placeChecks boxInRectangle areaChecks placeAnswer placeTable before split fieldsOf withoutEmptyLast linesOf partLength sameText isDigit allDigits digitsAfter isEmpty wellBegun numberOf andNumber listed inTable numbersOf withByte added lineText nextLines collected shaped frameOf stallOf cellOf byWord byFields recordOf lineRecord framedOr recordAnswer recordValue recordDone valueAfter deskAfter rowOf rowsAfter sheet startSheet lineEnded lineRow fed finished andThen partFed rowsOfParts
-computed = record { session = refl; ended = refl; refused = refl; emptied = refl; parts = refl; none = refl }
+unfolding requireAt inOrder leaves elementBytes surfaces elementPosition cubeExtent spanInside spanHas sizeTaken sizesTaken wholeAtoms stridesTaken layoutChecks slotOf slotsOf rectangleHas taken anyFrom overlaps rectangleInside slotAt isFilled rectangleOf placeChecks boxInRectangle areaChecks placeAnswer placeTable before split fieldsOf withoutEmptyLast linesOf partLength sameText isDigit allDigits digitsAfter isEmpty wellBegun numberOf andNumber listed inTable numbersOf withByte added lineText nextLines collected shaped frameOf stallOf cellOf byWord byFields recordOf lineRecord framedOr recordAnswer recordValue recordDone valueAfter deskAfter rowOf rowsAfter sheet startSheet lineEnded lineRow fed finished andThen partFed rowsOfParts output rowText fieldsText digits leadingIn numeral flatten
+computed = record { text = refl; session = refl; ended = refl; refused = refl; emptied = refl; parts = refl; none = refl }

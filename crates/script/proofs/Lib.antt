@@ -2,10 +2,12 @@
 --     AnswerLaws   a record's answer, value and desk in terms of what the code calls
 --     CutLaws      parts fed one after another give the rows of the lines
 --     RowLaws      as many rows as lines, numbered; what a refused record leaves
+--     OutputLaws   the text of a row, and of all rows
 --     Theorem      the statements
 --     Computed     the paper's session, computed
 pub mod AnswerLaws
 pub mod CutLaws
 pub mod RowLaws
+pub mod OutputLaws
 pub mod Theorem
 pub mod Computed

@@ -1,6 +1,6 @@
 -- The theorem about the whole input (scope paper, "The sheet program"). `rowsOfParts` folds the very definitions that the contracts of `begin`, `feed` and
 -- `finish` cite, over parts of any number and size, empty ones too; `sheet` has no parts and no state, only lines and records. Each proof cites
--- CutLaws.antt, RowLaws.antt or AnswerLaws.antt. Assumes nothing.
+-- CutLaws.antt, OutputLaws.antt, RowLaws.antt or AnswerLaws.antt. Assumes nothing.
 use Prim.Native.Nat.{ℕ, _+_, _^_, _≤_, _<_}
 use native.Mathlib.Nat.{zero-add, le-refl}
 use native.Mathlib.Omega.{arith}
@@ -14,16 +14,18 @@ use Rattle.refusal.specs.declared.Answer.the-variants.{Accepted, Refused}
 use Rattle.layout.specs.declared.CubeLayout.{CubeLayout}
 use Rattle.regions.specs.Calls.{emptyTable}
 use Rattle.lines.specs.Texts.{linesOf}
-use Rattle.lines.proofs.HoldLaws.{holds-empty}
+use Rattle.lines.proofs.HoldLaws.{holds-empty, written-text}
 use Rattle.lines.proofs.CollectLaws.{linesFrom-none}
 use Rattle.records.specs.declared.Record.{Record}
 use Rattle.records.specs.declared.Record.the-variants.{Frame, Stall, Cell}
 use Rattle.script.specs.declared.Sheet.{Sheet}
 use Rattle.script.specs.Rows.{Desk, startDesk, recordAnswer, recordDone, valueAfter, deskAfter}
 use Rattle.script.specs.Sheets.{sheet}
+use Rattle.script.specs.Output.{header, output, outputOfParts}
 use Rattle.script.specs.Feed.{startSheet, fed, partFed, wholePart, rowsOfParts}
 use Rattle.script.proofs.AnswerLaws as answers
 use Rattle.script.proofs.CutLaws as cut
+use Rattle.script.proofs.OutputLaws as out
 use Rattle.script.proofs.RowLaws as row
 
 -- however the input is cut into parts, the calls give the rows of the whole input, if it has fewer than 2^64 lines
@@ -33,6 +35,11 @@ however-cut parts h =
     cut.rows-parts parts startSheet [] holds-empty
     ∙ ap (cut.rowsFrom 0 startDesk) (linesFrom-none (flatten parts))
     ∙ cut.rows-wrap (linesOf (flatten parts)) 0 startDesk (omega arith)
+
+-- and so does their text: what is handed over to be written, one after another, is the whole output of the whole input
+pub output-cut : (parts : List (List ℕ)) → length (linesOf (flatten parts)) < 2 ^ 64 → outputOfParts parts ≡ output (flatten parts)
+unfolding outputOfParts output
+output-cut parts h = rw (written-text header, out.handed-over (rowsOfParts startSheet parts), however-cut parts h)
 
 -- two ways to cut one input give the same rows, however many lines it has
 pub same-rows : (parts others : List (List ℕ)) → flatten parts ≡ flatten others → rowsOfParts startSheet parts ≡ rowsOfParts startSheet others

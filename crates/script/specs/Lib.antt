@@ -1,4 +1,5 @@
 pub mod Rows
 pub mod Sheets
 pub mod Feed
+pub mod Output
 pub mod Steps

@@ -3,7 +3,11 @@ mod answers;
 
 ghost use mathlib.Core.Path.{_≡_};
 ghost use Rattle.script.specs.Feed.{startSheet, lineFed, fed, finished};
+ghost use Rattle.lines.specs.Digits.{signed};
+ghost use Rattle.lines.specs.Collecting.{written};
+ghost use Rattle.script.specs.Output.{header, fieldsText, rowText, givenText};
 use layout::CubeLayout;
+use lines::Line;
 use lines::Lines;
 use refusal::Answer;
 use regions::RegionTable;
@@ -131,4 +135,46 @@ pub fn finish(sheet: Sheet) -> Fed
         };
     }
     end_line(sheet, 0)
+}
+
+// ---- the text that a sheet prints
+
+// The header.
+pub fn header_text() -> Line
+    ensures { λ r. ⌜ r ≡ written header ⌝ }
+{
+    let empty = lines::empty();
+    lines::add(empty, b"line\tanswer\tvalue\n")
+}
+
+// A line's number, its answer and its value, which is negative if a minus is asked for.
+pub fn fields_text(line: u64, answer: u32, minus: bool, value: u64) -> Line
+    ensures { λ r. ⌜ r ≡ written (fieldsText line answer (signed minus value)) ⌝ }
+{
+    let empty = lines::empty();
+    let first = lines::add_number(empty, line);
+    let second = lines::add(first, b"\t");
+    let third = lines::add_number(second, answer as u64);
+    let fourth = lines::add(third, b"\t");
+    let fifth = lines::add_signed(fourth, minus, value);
+    lines::add(fifth, b"\n")
+}
+
+// A row: the answer by its number.
+pub fn row_text(row: Row) -> Line
+    ensures { λ r. ⌜ r ≡ written (rowText row) ⌝ }
+{
+    let answer = row.answer;
+    let code = refusal::answer_code(answer);
+    fields_text(row.line, code, false, row.value)
+}
+
+// The row of a line that ended, or nothing.
+pub fn given_text(given: Given) -> Line
+    ensures { λ r. ⌜ r ≡ written (givenText given) ⌝ }
+{
+    match given {
+        Given::Nothing => lines::empty(),
+        Given::Line(row) => row_text(row),
+    }
 }
