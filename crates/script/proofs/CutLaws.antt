@@ -4,6 +4,7 @@
 --     feed-ended, feed-open, line-fed     what the code makes of a call
 --     read-within, read-some      how many bytes of a part a call reads
 --     calls-enough                calls past a part's length give nothing more
+--     part-next                   one call more for a part
 --     rows-parts                  the rows of parts, from any state
 --     rows-wrap                   with fewer than 2^64 lines the count does not begin again
 use Prim.Native.Nat.{ℕ, zero, suc, _+_, _-_, _%_, _^_, _≤_, _<_}
@@ -14,13 +15,13 @@ use mathlib.Core.Path.{_≡_, refl, sym, ap, _∙_}
 use mathlib.Core.Bool.{true, false}
 use mathlib.Core.List.{List, [], _∷_, _++_, flatten, append-nil}
 use lib.ListN.{length, take, drop, length-drop, drop-of-length-le}
-use lib.Seq.{take-all}
+use lib.Seq.{take-all, drop-drop}
 use borrow.Author.Tests.{ne-eqb}
 use Rattle.lines.specs.declared.Lines.{Lines}
 use Rattle.lines.specs.declared.Collected.{Collected}
 use Rattle.lines.specs.Texts.{partLength}
 use Rattle.lines.specs.Collecting.{added, nextLines, collected}
-use Rattle.lines.proofs.SplitLaws.{partLength-le}
+use Rattle.lines.proofs.SplitLaws.{partLength-le, part-whole}
 use Rattle.lines.proofs.HoldLaws.{Holds, holds-next, holds-added, holds-none, holds-some, collected-ended, collected-open}
 use Rattle.lines.proofs.CollectLaws.{linesFrom, linesFrom-end-none, linesFrom-end-some, linesFrom-ended, linesFrom-open}
 use Rattle.records.specs.declared.Record.{Record}
@@ -116,6 +117,26 @@ calls-enough (suc a) (suc b) s part h k =
           ap (λ (o : Outcome). record { rows = andThen (g .given) (o .rows); sheet = o .sheet }) (calls-enough a b (g .sheet) (drop (g .read) part) (omega arith) (omega arith))
           )
     ]
+
+-- one call more for a part of which `from` bytes are read
+pub part-next : (s : Sheet) (part : List ℕ) (from : ℕ) {f : Fed} → from < length part → f ≡ fed s (take (length part - from) (drop from part))
+    → partFed (length part - (from + f .read)) (f .sheet) (drop (from + f .read) part) .sheet ≡ partFed (length part - from) s (drop from part) .sheet
+unfolding partFed
+part-next s part from {f} h e =
+    let rest = drop from part in
+    let left = length part - from - 1 in
+    let same : f ≡ fed s rest = e ∙ ap (fed s) (part-whole part from) in
+    let long : length rest ≡ length part - from = length-drop from part in
+    let read : 0 < f .read = rw same (read-some s rest (omega arith)) in
+    let less : length (drop (f .read) rest) ≡ length rest - f .read = length-drop (f .read) rest in
+    let one : length part - from ≡ suc left = omega arith in
+    ap (λ (l : List ℕ). partFed (length part - (from + f .read)) (f .sheet) l .sheet) (sym (drop-drop (f .read) from part))
+    ∙ ap (λ (o : Outcome). o .sheet) (calls-enough (length part - (from + f .read)) left (f .sheet) (drop (f .read) rest) (omega arith) (omega arith))
+    ∙ first rest left same
+    ∙ ap (λ (k : ℕ). partFed k s rest .sheet) (sym one)
+  where
+    first : (rest : List ℕ) (left : ℕ) → f ≡ fed s rest → partFed left (f .sheet) (drop (f .read) rest) .sheet ≡ partFed (suc left) s rest .sheet
+    first rest left same = rw same
 
 -- ---- the rows of parts
 

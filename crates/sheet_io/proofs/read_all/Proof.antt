@@ -1,9 +1,9 @@
--- `sheet::read_all` is safe and ends: the count of parts falls. The loop's invariant: the buffer keeps its length. Assumes nothing.
+-- `sheet_io::read_all` is safe and ends: the count of parts falls. The loop's invariant: the buffer keeps its length. Assumes nothing.
 use mathlib.Core.Path.{_≡_}
 use lib.ListN.{length}
 use borrow.Author.Needs.{needs}
-use Rattle.sheet.proofs.read_all.Statement.{statement}
-use Rattle.sheet.proofs.read_all.Tie as tie
+use Rattle.sheet_io.proofs.read_all.Statement.{statement}
+use Rattle.sheet_io.proofs.read_all.Tie as tie
 
 abbrev Inv-loop : tie.InvT-loop
 Inv-loop buffer₀ state₀ left₀ buffer state left = 65536 ≡ length buffer

@@ -1,17 +1,21 @@
--- `sheet::feed_all` is safe and ends: each call reads a byte at least. The loop's invariant: `from` is at most the part's length. Assumes nothing.
+-- `sheet_io::feed_all` meets its contract: each call reads a byte at least. The loop's invariant: the calls for what is left of the part come to the
+-- state of those for all of it. The measure is what is left. Assumes nothing.
 use Prim.Native.Nat.{ℕ, _+_, _-_, _≤_, _<_}
 use native.Mathlib.Omega.{arith}
-use mathlib.Core.Path.{_≡_, ap}
+use mathlib.Core.Path.{_≡_, refl, sym, ap, _∙_}
 use lib.ListN.{length, take, drop, length-drop}
 use lib.Seq.{length-take-le}
 use borrow.Author.Needs.{needs}
 use Rattle.script.specs.declared.Fed.{Fed}
+use Rattle.script.specs.Feed.{partFed, wholePart}
+use Rattle.script.proofs.CutLaws.{part-next}
 use Rattle.script.proofs.Theorem as script
-use Rattle.sheet.proofs.feed_all.Statement.{statement}
-use Rattle.sheet.proofs.feed_all.Tie as tie
+use Rattle.sheet_io.proofs.feed_all.Statement.{statement}
+use Rattle.sheet_io.proofs.feed_all.Tie as tie
 
 abbrev Inv-loop : tie.InvT-loop
-Inv-loop part state₀ from₀ state from = from ≤ length part
+Inv-loop part state₀ from₀ state from =
+    (from ≤ length part) × (partFed (length part - from) state (drop from part) .sheet ≡ wholePart state₀ part .sheet)
 
 abbrev μ-loop : tie.MeasureT-loop
 μ-loop part state₀ from₀ state from = length part - from
@@ -35,7 +39,10 @@ reads c =
     (omega (arith, same, script.reads (l .loop .state) rest .1 (omega (arith, n, h))), omega (arith, same, script.reads (l .loop .state) rest .0, n, h))
 
 loop-holds : tie.Need-loop-holds Inv-loop μ-loop
-loop-holds c = omega arith
+loop-holds c =
+    let a = c .before .args in
+    let all : length (a .part .now) - 0 ≡ length (a .part .now) = omega arith in
+    (omega arith, ap (λ (k : ℕ). partFed k (a .sheet) (a .part .now) .sheet) all)
 
 sub-feed : tie.Need-sub-feed Inv-loop μ-loop
 sub-feed c = search needs
@@ -49,20 +56,33 @@ part-feed-end c = search needs
 feed-requires : tie.Need-feed-requires Inv-loop μ-loop
 feed-requires c κs = tt
 
-print-given-requires : tie.Need-print-given-requires Inv-loop μ-loop
-print-given-requires c κs = tt
+given-text-requires : tie.Need-given-text-requires Inv-loop μ-loop
+given-text-requires c κs = tt
+
+write-requires : tie.Need-write-requires Inv-loop μ-loop
+write-requires c κs = tt
 
 add-from : tie.Need-add-from Inv-loop μ-loop
-add-from c = record { fits = omega (arith, reads (c .before .before .before) .1, c .before .before .before .before .before .before .before .before .good .1 .0) }
+add-from c = record { fits = omega (arith, reads (c .before .before .before .before) .1, c .before .before .before .before .before .before .before .before .before .good .1 .0) }
 
 loop-less : tie.Need-loop-less Inv-loop μ-loop
-loop-less c = let r = reads (c .before .before .before) in omega (arith, r .0, r .1)
+loop-less c = let r = reads (c .before .before .before .before) in omega (arith, r .0, r .1)
 
 loop-again : tie.Need-loop-again Inv-loop μ-loop
-loop-again c = omega (arith, reads (c .before .before .before) .1)
+loop-again c =
+    let f = c .before .before .before .before in
+    let l = f .before .before .before in (
+      omega (arith, reads f .1),
+      part-next (l .loop .state) (l .before .before .args .part .now) (l .loop .from) (f .before .before .loop-test .taken) (f .feed .ensures) ∙ l .loop .inv .1,
+    )
 
 returns : tie.Need-returns Inv-loop μ-loop
-returns c = search needs
+unfolding partFed
+returns c =
+    let l = c .before in
+    let part = l .before .before .args .part .now in
+    let none : length part - l .loop .from ≡ 0 = omega (arith, c .loop-test .left) in
+    ap (λ (k : ℕ). partFed k (l .loop .state) (drop (l .loop .from) part) .sheet) (sym none) ∙ l .loop .inv .1
 
 pub feed-all-spec : {M : Type 1} → statement M
 feed-all-spec =
@@ -75,7 +95,8 @@ feed-all-spec =
     part-feed-start
     part-feed-end
     feed-requires
-    print-given-requires
+    given-text-requires
+    write-requires
     add-from
     loop-less
     loop-again
