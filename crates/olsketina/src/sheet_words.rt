@@ -22,12 +22,13 @@ pub(crate) fn sheet_of(words: &[u32; 91], text: &[u8; 120]) -> Sheet
 {
     let bytes = *text;
     let table = tables::table_at(words, 4);
+    let count = joined(words[0], words[1]);
     let line = Line {
         length: words[2],
         bytes: bytes,
     };
     let lines = Lines {
-        count: joined(words[0], words[1]),
+        count: count,
         line: line,
     };
     Sheet {

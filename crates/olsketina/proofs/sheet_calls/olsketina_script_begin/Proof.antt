@@ -12,7 +12,7 @@ put-sheet-requires : tie.Need-put-sheet-requires
 put-sheet-requires c κs = search needs
 
 returns : tie.Need-returns
-returns c = let e = c .before .before .before .begin .ensures in (c .put-sheet .ensures ∙ rw e, rw e)
+returns c = let e = c .before .before .before .before .before .begin .ensures in (c .put-sheet .ensures ∙ rw e, rw e)
 
 pub olsketina-script-begin-spec : {M : Type 1} → statement M
 olsketina-script-begin-spec = tie.close (tie.spec begin-requires put-sheet-requires returns)

@@ -17,11 +17,11 @@ element-copy-out-joined-2 c = search needs
 joined-requires : tie.Need-joined-requires
 joined-requires c κs = search needs
 
-element-copy-out-t16 : tie.Need-element-copy-out-t16
-element-copy-out-t16 c = search needs
+element-copy-out-t12 : tie.Need-element-copy-out-t12
+element-copy-out-t12 c = search needs
 
-element-copy-out-t19 : tie.Need-element-copy-out-t19
-element-copy-out-t19 c = search needs
+element-copy-out-t15 : tie.Need-element-copy-out-t15
+element-copy-out-t15 c = search needs
 
 returns : tie.Need-returns
 unfolding sheetFrom says
@@ -35,6 +35,6 @@ sheet-of-spec =
     element-copy-out-joined
     element-copy-out-joined-2
     joined-requires
-    element-copy-out-t16
-    element-copy-out-t19
+    element-copy-out-t12
+    element-copy-out-t15
     returns)
