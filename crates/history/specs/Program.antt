@@ -1,11 +1,10 @@
 -- A list of calls, and what the program does at each: the promises of `begin`, `place`, `edit` and `read` cite these steps, and the fold goes from one
 -- to the next (scope paper, "The plain picture"). Assumes nothing.
-use Prim.Native.Nat.{ℕ, _<_}
+use Prim.Native.Nat.{ℕ}
 use mathlib.Core.Bool.{Bool, false}
 use mathlib.Core.List.{List, [], _∷_}
-use lib.ListN.{length, getD}
-use lib.IntN.{ℤ, pos}
-use lib.Signed.{mag}
+use lib.ListN.{length}
+use lib.IntN.{ℤ}
 pub use Rattle.elements.specs.Values.{SixteenBit}
 use Rattle.refusal.specs.declared.Answer.{Answer}
 use Rattle.layout.specs.declared.CubeLayout.{CubeLayout}
