@@ -21,9 +21,6 @@ use Rattle.columns.specs.Columns.{listed, rowsWritten, rowsRead}
 use Rattle.columns.proofs.StripLaws.{written-length}
 use Rattle.columns.specs.Blocks.{fitting, blockFits, blockWritten, blockRead}
 
-pub both-true : {a b : Bool} → a ≡ true → b ≡ true → a && b ≡ true
-both-true {a} {b} ha hb = rw (ha, hb)
-
 -- two tests that hold together are one
 same-test : (a b : Bool) → (a ≡ true → b ≡ true) → (b ≡ true → a ≡ true) → a ≡ b
 same-test true b f g = sym (f refl)

@@ -6,8 +6,9 @@ use mathlib.Core.Path.{_≡_, sym, _∙_}
 use mathlib.Core.Bool.{true, _&&_}
 use lib.Dec.{leb}
 use borrow.Author.Tests.{leb-true, le-leb}
+use Rattle.refusal.proofs.TestLaws.{and-both}
 use Rattle.elements.proofs.ValueLaws.{and-true}
-use Rattle.columns.proofs.BlockLaws.{both-true, fitting-same, fitting-false}
+use Rattle.columns.proofs.BlockLaws.{fitting-same, fitting-false}
 use borrow.Author.Needs.{needs}
 use Rattle.columns.proofs.fits.Statement.{statement}
 use Rattle.columns.proofs.fits.Tie as tie
@@ -89,14 +90,14 @@ returns c = let a = c .before .args in
       elements = omega (arith, t .4, leb-true read (a .given - a .from) (q .1));
       bytes = omega (arith, t .5, leb-true wide (a .len - a .at) (p .1));
     })
-    (λ f. both-true (both-true (le-leb (a .rows * a .size) (a .stride) (f .deep)) (le-leb read (a .given - a .from) (omega (arith, f .elements)))) (le-leb wide (a .len - a .at) (omega (arith, f .bytes))))
+    (λ f. and-both (and-both (le-leb (a .rows * a .size) (a .stride) (f .deep)) (le-leb read (a .given - a .from) (omega (arith, f .elements)))) (le-leb wide (a .len - a .at) (omega (arith, f .bytes))))
 
 returns-2 : tie.Need-returns-2
 returns-2 c = let a = c .before .args in
     fitting-false
     (λ f.
     sym (c .if1 .left)
-    ∙ both-true (both-true (both-true (both-true (both-true (le-leb 1 (a .size) (f .some)) (le-leb (a .size) 2 (f .small))) (le-leb 1 (a .rows) (f .rows-some))) (le-leb 1 (a .count) (f .count-some))) (le-leb (a .from) (a .given) (omega (arith, f .elements)))) (le-leb (a .at) (a .len) (omega (arith, f .bytes))))
+    ∙ and-both (and-both (and-both (and-both (and-both (le-leb 1 (a .size) (f .some)) (le-leb (a .size) 2 (f .small))) (le-leb 1 (a .rows) (f .rows-some))) (le-leb 1 (a .count) (f .count-some))) (le-leb (a .from) (a .given) (omega (arith, f .elements)))) (le-leb (a .at) (a .len) (omega (arith, f .bytes))))
 
 pub fits-spec : {M : Type 1} → statement M
 fits-spec =
