@@ -21,10 +21,11 @@ use Rattle.lut.specs.declared.LutSettings.{LutSettings}
 use Rattle.lut.specs.declared.Counters.{Counters}
 use Rattle.lut.specs.StepsRows.{rowAnswer, Inside, Powered, rowPower}
 
--- the number of a sample's side, and of its pair of sides
+-- the number of a sample's side: 0 below, 1 hit, 2 above
 unfoldable pub sideOf : Span → ℤ → ℕ
 sideOf s x = cond (leZ (s .first) x) 1 0 + cond (ltZ (s .last) x) 1 0
 
+-- the number of its pair of sides
 unfoldable pub pairOf : Bounds → ℤ → ℕ
 pairOf b x = 3 * sideOf (b .x) x + sideOf (b .y) x
 
@@ -36,6 +37,7 @@ firstX s = byMode (s .mode)
     byMode (Linear select) = s .start
     byMode (Exponential offset) = s .start +ℤ pos (2 ^ up offset)
 
+-- the spans of both tables
 unfoldable pub boundsOf : LutSettings → Bounds
 boundsOf s = record { x = record { first = firstX (s .x); last = s .x .end }; y = record { first = s .y .start; last = s .y .end } }
 
@@ -46,12 +48,14 @@ pub record SettingsFit (s : LutSettings) : Type 0 where
   pub y-start : SFits w32 (s .y .start)
   pub y-end : SFits w32 (s .y .end)
 
+-- whether rows can be exponential
 unfoldable pub wideOf : XMode → Bool
 wideOf (Linear select) = false
 wideOf (Exponential offset) = true
 
 -- ---- the loop
 
+-- the row of a sample's pair of sides
 unfoldable pub rowFor : List Row → Bounds → ℤ → Row
 rowFor rows b x = getD rows (pairOf b x) (record { origin = pos 0; size = pos 0; shift = 0; on = pos 0; base = 0; wide = pos 0 })
 
@@ -87,6 +91,7 @@ summed c seen =
       priority = c .priority + getD seen 2 0 + getD seen 4 0 + getD seen 6 0;
     }
 
+-- they stay within 32 bits
 pub record Roomy (c : Counters) (seen : List ℕ) : Type 0 where
   pub x-room : c .x + getD seen 3 0 + getD seen 5 0 ≤ 4294967295
   pub y-room : c .y + getD seen 1 0 + getD seen 7 0 ≤ 4294967295

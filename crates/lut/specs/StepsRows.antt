@@ -42,6 +42,7 @@ rowPoint r p x = r .base + p + rowSteps r p x
 unfoldable pub rowRest : Row → ℕ → ℤ → ℤ
 rowRest r p x = rowFar r x -ℤ pos (rowSteps r p x * 2 ^ (r .shift + p))
 
+-- the answer: on the line of that point, at what is left
 unfoldable pub rowAnswer : Row → List ℤ → List ℤ → ℕ → ℤ → ℤ
 rowAnswer r firsts rises p x = onLine (entry firsts (rowPoint r p x)) (entry rises (rowPoint r p x)) (rowRest r p x) (2 ^ (r .shift + p))
 
@@ -58,21 +59,26 @@ pub record Inside (r : Row) (p : ℕ) (x : ℤ) : Type 0 where
 unfoldable pub rowWide : Row → ℤ → ℤ
 rowWide r x = (x -ℤ r .origin) *ℤ r .wide
 
+-- that distance is above 0, and within 32 bits
 pub record Powered (r : Row) (x : ℤ) : Type 0 where
   pub wide-is : rowWide r x ≡ pos (natAbs (rowWide r x))
   pub wide-le : natAbs (rowWide r x) ≤ 4294967295
 
+-- the power of 2 at or below it where rows can be exponential and this one is, else 0
 unfoldable pub rowPower : Bool → Row → ℤ → ℕ
 rowPower wide r x = cond wide (logBelow 32 (natAbs (rowWide r x))) 0
 
 -- ---- the rows of a table
 
+-- past an end: no step counts, and the distance is divided by 2^shift
 unfoldable pub slopeRow : ℤ → ℤ → ℕ → Row
 slopeRow origin shift base = record { origin = origin; size = pos 1; shift = up shift; on = pos 0; base = base; wide = pos 0 }
 
+-- the hits of a linear table, its points from base on: a step of 2^select each, or 2^(−select) points a step
 unfoldable pub lineRow : ℤ → ℤ → ℕ → Row
 lineRow start select base = record { origin = start; size = pos (2 ^ dn select); shift = up select; on = pos 1; base = base; wide = pos 0 }
 
+-- the hits of the exponential X table, its points from 258 on: one step of 2^p leads to point p − offset
 unfoldable pub powerRow : ℤ → ℤ → Row
 powerRow start offset = record { origin = start; size = pos 1; shift = 0; on = pos 1; base = natAbs (pos 257 -ℤ offset); wide = pos 1 }
 
@@ -85,6 +91,7 @@ linearRows t base last =
       above = slopeRow (t .end) (t .above .shift) (base + last);
     }
 
+-- the rows of the X table, its points from 258 on
 unfoldable pub rowsX : XSettings → TableRows
 rowsX s = byMode (s .mode)
   where
@@ -99,10 +106,12 @@ rowsX s = byMode (s .mode)
 
 -- ---- the rows of all pairs of sides
 
+-- the row of the table that answers
 unfoldable pub picked : Table → Row → Row → Row
 picked X x y = x
 picked Y x y = y
 
+-- the row of each pair of sides, by X's side and then Y's: below, hit, above
 unfoldable pub rowsOf : LutSettings → TableRows → TableRows → List Row
 rowsOf s x y =
     picked (s .underflow) (x .below) (y .below) ∷ y .hit ∷ picked (s .priority) (x .below) (y .above) ∷ x .hit ∷ picked (s .priority) (x .hit) (y .hit)
