@@ -4,33 +4,23 @@
 --     holds-byte, holds-added              after a byte, after more
 --     holds-none, holds-some               whether the text is empty
 --     holds-whole, holds-text              whether all bytes are kept, and which
---     added-end, added-kept, added-lost    bytes added from a byte on, by the length of the line
 --     added-append                         bytes added one after another
 --     written-added, written-text          a text written to a line
---     count-next, count-again              the count after a line
---     collected-ended, collected-open      a part with a newline, and one without
-use Prim.Native.Nat.{ℕ, suc, _+_, _-_, _%_, _^_, _≤_, _<_, min}
-use native.Mathlib.Nat.{min-eq-left, min-eq-right}
+use Prim.Native.Nat.{ℕ, suc, _+_, _-_, _≤_, _<_}
 use native.Mathlib.Numerals.{add-one}
 use native.Mathlib.Decide.{decLe}
 use native.Mathlib.Omega.{arith}
 use mathlib.Core.Path.{_≡_, refl, sym, ap, _∙_, subst}
-use mathlib.Core.Bool.{Bool, true, false, cond}
-use mathlib.Core.List.{List, [], _∷_, _++_, map, append-nil}
-use lib.ListN.{length, take, drop, set, getD, replicate, length-set, length-append, length-replicate, drop-of-length-le, length-map}
-use lib.Seq.{drop-cons, take-suc-set, take-append-seam, append-snoc}
-use lib.Dec.{leb, ltb}
-use borrow.Author.Tests.{le-leb, lt-leb, lt-ltb, le-ltb}
+use mathlib.Core.List.{List, [], _∷_, _++_, append-nil}
+use lib.ListN.{length, take, set, replicate, length-set, length-append, length-replicate}
+use lib.Seq.{take-suc-set, take-append-seam, append-snoc}
+use lib.Dec.{leb}
+use borrow.Author.Tests.{lt-leb}
 use Rattle.lines.specs.declared.Line.{Line}
-use Rattle.lines.specs.declared.Lines.{Lines}
-use Rattle.lines.specs.declared.Collected.{Collected}
-use Rattle.lines.specs.Texts.{longest, padded, partLength}
-use Rattle.lines.specs.Collecting.{emptyLine, withByte, added, isWhole, lineText, written, nextLines, collected}
+use Rattle.lines.specs.Texts.{longest, padded}
+use Rattle.lines.specs.Collecting.{emptyLine, withByte, added, isWhole, lineText, written}
 use Rattle.lines.proofs.TextLaws.{padded-set}
-
--- the length of an array is told of the list of its values
-pub length-mapped : {A B : Type 0} (f : A → B) (l : List A) (n : ℕ) → length (map f l) ≡ n → length l ≡ n
-length-mapped f l n e = sym (length-map l f) ∙ e
+use Rattle.lines.proofs.StepLaws.{byte-kept, byte-lost}
 
 pub record Holds (l : Line) (text : List ℕ) : Type 0 where
   pub room : length (l .bytes) ≡ 120
@@ -43,33 +33,6 @@ holds-empty = record { room = length-replicate {A = ℕ} 120 0; counted = λ h. 
 
 pub holds-next : (l : Line) (text : List ℕ) → Holds l text → Holds (record { length = 0; bytes = l .bytes }) []
 holds-next l text o = record { room = o .room; counted = λ h. refl; kept-text = λ h. refl; over = λ h. omega arith }
-
--- ---- one more byte, by the length of the line
-
-byte-kept : (l : Line) (b : ℕ) → l .length < 120 → _≡_ {A = Line} (record { length = l .length + 1; bytes = set (l .bytes) (l .length) b }) (withByte l b)
-unfolding withByte
-byte-kept l b h = let e : min (l .length + 1) 121 ≡ l .length + 1 = min-eq-left (omega arith) in rw (lt-ltb (l .length) 120 h, e)
-
-byte-lost : (l : Line) (b : ℕ) → 120 ≤ l .length → _≡_ {A = Line} (record { length = 121; bytes = l .bytes }) (withByte l b)
-unfolding withByte
-byte-lost l b h = let e : min (l .length + 1) 121 ≡ 121 = min-eq-right (omega arith) in rw (le-ltb (l .length) 120 h, e)
-
--- bytes added from the one at i on
-module _ (l : Line) (more : List ℕ) (i : ℕ) where
-  pub added-end : length more ≤ i → l ≡ added l (drop i more)
-  unfolding added
-  added-end h = sym (ap (added l) (drop-of-length-le more {i = i} h))
-
-  module _ (h : i < length more) where
-    first : added (withByte l (getD more i 0)) (drop (i + 1) more) ≡ added l (drop i more)
-    unfolding added
-    first = rw (drop-cons more i 0 h, add-one i)
-
-    pub added-kept : l .length < 120 → added (record { length = l .length + 1; bytes = set (l .bytes) (l .length) (getD more i 0) }) (drop (i + 1) more) ≡ added l (drop i more)
-    added-kept s = ap (λ (m : Line). added m (drop (i + 1) more)) (byte-kept l (getD more i 0) s) ∙ first
-
-    pub added-lost : 120 ≤ l .length → added (record { length = 121; bytes = l .bytes }) (drop (i + 1) more) ≡ added l (drop i more)
-    added-lost s = ap (λ (m : Line). added m (drop (i + 1) more)) (byte-lost l (getD more i 0) s) ∙ first
 
 -- ---- the text that a line holds
 
@@ -151,28 +114,3 @@ added-append (b ∷ xs) ys l = added-append xs ys (withByte l b)
 pub written-text : (text : List ℕ) → lineText (written text) ≡ text
 unfolding lineText
 written-text text = take-append-seam text (replicate (120 - length text) 0)
-
--- ---- the count of lines
-module _ (s : Lines) where
-  abbrev next : ℕ → Lines
-  next n = record { count = n; line = record { length = 0; bytes = s .line .bytes } }
-
-  pub count-next : s .count < 18446744073709551615 → next (s .count + 1) ≡ nextLines s
-  unfolding nextLines
-  count-next h = let e : s .count + 1 ≡ (s .count + 1) % 2 ^ 64 = omega arith in ap next e
-
-  pub count-again : 18446744073709551615 ≤ s .count → s .count < 2 ^ 64 → next 0 ≡ nextLines s
-  unfolding nextLines
-  count-again h f = let e : 0 ≡ (s .count + 1) % 2 ^ 64 = omega arith in ap next e
-
--- ---- a part collected
-module _ (s : Lines) (part : List ℕ) {n : ℕ} {l : Line} (e : n ≡ partLength 10 part) (a : l ≡ added (s .line) (take n part)) where
-  pub collected-ended : n < length part
-      → _≡_ {A = Collected} (record { lines = record { count = s .count; line = l }; read = n + 1; ended = true }) (collected s part)
-  unfolding collected
-  collected-ended h = rw (← e, lt-ltb n (length part) h, a)
-
-  pub collected-open : length part ≤ n
-      → _≡_ {A = Collected} (record { lines = record { count = s .count; line = l }; read = n; ended = false }) (collected s part)
-  unfolding collected
-  collected-open h = rw (← e, le-ltb n (length part) h, a)

@@ -1,6 +1,6 @@
 -- The theorem about the whole input (scope paper, "The sheet program"). `rowsOfParts` folds the very definitions that the contracts of `begin`, `feed` and
 -- `finish` cite, over parts of any number and size, empty ones too; `sheet` has no parts and no state, only lines and records. Each proof cites
--- CutLaws.antt, OutputLaws.antt, RowLaws.antt or AnswerLaws.antt. Assumes nothing.
+-- CallLaws.antt, CutLaws.antt, OutputLaws.antt, RowLaws.antt or AnswerLaws.antt. Assumes nothing.
 use Prim.Native.Nat.{ℕ, _+_, _^_, _≤_, _<_}
 use native.Mathlib.Nat.{zero-add, le-refl}
 use native.Mathlib.Omega.{arith}
@@ -24,6 +24,7 @@ use Rattle.script.specs.Sheets.{sheet}
 use Rattle.script.specs.Output.{header, output, outputOfParts}
 use Rattle.script.specs.Feed.{startSheet, fed, partFed, wholePart, rowsOfParts}
 use Rattle.script.proofs.AnswerLaws as answers
+use Rattle.script.proofs.CallLaws as call
 use Rattle.script.proofs.CutLaws as cut
 use Rattle.script.proofs.OutputLaws as out
 use Rattle.script.proofs.RowLaws as row
@@ -49,11 +50,11 @@ same-rows parts others e =
 
 -- a call reads no more than it was given, and a byte at least if it was given one
 pub reads : (s : Sheet) (bytes : List ℕ) → (fed s bytes .read ≤ length bytes) × (0 < length bytes → 0 < fed s bytes .read)
-reads s bytes = (cut.read-within s bytes, cut.read-some s bytes)
+reads s bytes = (call.read-within s bytes, call.read-some s bytes)
 
 -- so a part takes at most as many calls as it has bytes: further calls with nothing left give nothing
 pub calls-enough : (calls : ℕ) (s : Sheet) (bytes : List ℕ) → length bytes ≤ calls → partFed calls s bytes ≡ wholePart s bytes
-calls-enough calls s bytes h = cut.calls-enough calls (length bytes) s bytes h (le-refl (length bytes))
+calls-enough calls s bytes h = call.calls-enough calls (length bytes) s bytes h (le-refl (length bytes))
 
 -- a row for each line, an empty last one left out
 pub row-count : (input : List ℕ) → length (sheet input) ≡ length (linesOf input)

@@ -7,7 +7,7 @@ use borrow.Author.Needs.{needs}
 use lib.ListN.{length, drop}
 use Rattle.lines.specs.declared.Line.{Line}
 use Rattle.lines.specs.Collecting.{added}
-use Rattle.lines.proofs.HoldLaws.{added-kept, added-lost, added-end}
+use Rattle.lines.proofs.StepLaws.{added-kept, added-lost, added-end}
 use Rattle.lines.proofs.add.Statement.{statement}
 use Rattle.lines.proofs.add.Tie as tie
 

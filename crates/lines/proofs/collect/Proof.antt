@@ -6,7 +6,7 @@ use lib.ListN.{length}
 use lib.Seq.{length-take-le}
 use borrow.Author.Needs.{needs}
 use Rattle.lines.proofs.SplitLaws.{partLength-le}
-use Rattle.lines.proofs.HoldLaws.{collected-ended, collected-open}
+use Rattle.lines.proofs.StepLaws.{collected-ended, collected-open}
 use Rattle.lines.proofs.collect.Statement.{statement}
 use Rattle.lines.proofs.collect.Tie as tie
 

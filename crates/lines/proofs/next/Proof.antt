@@ -1,5 +1,5 @@
 -- `lines::next` meets its contract: only after 2^64 − 1 does the count wrap. Assumes nothing.
-use Rattle.lines.proofs.HoldLaws.{count-next, count-again}
+use Rattle.lines.proofs.StepLaws.{count-next, count-again}
 use borrow.Author.Needs.{needs}
 use Rattle.lines.proofs.next.Statement.{statement}
 use Rattle.lines.proofs.next.Tie as tie

@@ -5,7 +5,7 @@ use native.Mathlib.Omega.{arith}
 use lib.ListN.{length}
 use lib.Seq.{length-take-le}
 use borrow.Author.Tests.{not-true, not-false, leb-true}
-use Rattle.lines.proofs.HoldLaws.{length-mapped}
+use Rattle.lines.proofs.StepLaws.{length-mapped}
 use Rattle.lines.specs.Collecting.{lineText}
 use Rattle.records.specs.Records.{lineRecord}
 use borrow.Author.Needs.{needs}

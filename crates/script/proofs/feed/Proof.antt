@@ -1,6 +1,6 @@
 -- `script::feed` meets its contract: the line collected, and ended if a newline came. Assumes nothing.
 use mathlib.Core.Path.{_∙_}
-use Rattle.script.proofs.CutLaws.{feed-ended, feed-open}
+use Rattle.script.proofs.CallLaws.{feed-ended, feed-open}
 use borrow.Author.Needs.{needs}
 use Rattle.script.proofs.feed.Statement.{statement}
 use Rattle.script.proofs.feed.Tie as tie

@@ -8,7 +8,7 @@ use lib.Seq.{length-take-le}
 use borrow.Author.Needs.{needs}
 use Rattle.script.specs.declared.Fed.{Fed}
 use Rattle.script.specs.Feed.{partFed, wholePart}
-use Rattle.script.proofs.CutLaws.{part-next}
+use Rattle.script.proofs.CallLaws.{part-next}
 use Rattle.script.proofs.Theorem as script
 use Rattle.sheet_io.proofs.feed_all.Statement.{statement}
 use Rattle.sheet_io.proofs.feed_all.Tie as tie

@@ -5,7 +5,7 @@ use native.Mathlib.Omega.{arith}
 use lib.ListN.{length}
 use lib.Seq.{length-take-le}
 use borrow.Author.Tests.{leb-true}
-use Rattle.lines.proofs.HoldLaws.{length-mapped}
+use Rattle.lines.proofs.StepLaws.{length-mapped}
 use borrow.Author.Needs.{needs}
 use Rattle.sheet_io.proofs.write.Statement.{statement}
 use Rattle.sheet_io.proofs.write.Tie as tie
