@@ -17,7 +17,7 @@ use lib.Seq.{take-suc-set, take-append-seam, append-snoc}
 use lib.Dec.{leb}
 use borrow.Author.Tests.{lt-leb}
 use Rattle.lines.specs.declared.Line.{Line}
-use Rattle.lines.specs.Texts.{longest, padded}
+use Rattle.lines.specs.Texts.{longest}
 use Rattle.lines.specs.Collecting.{emptyLine, withByte, added, isWhole, lineText, written}
 use Rattle.lines.proofs.TextLaws.{padded-set}
 use Rattle.lines.proofs.StepLaws.{byte-kept, byte-lost}

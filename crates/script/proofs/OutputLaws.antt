@@ -5,18 +5,18 @@
 --     handed-over      what is handed over to be written, row by row, is the rows' text
 use Prim.Native.Nat.{ℕ, zero, suc, _+_, _^_, _≤_, _<_}
 use native.Mathlib.Omega.{arith}
-use mathlib.Core.Path.{_≡_, refl, sym, ap, _∙_}
+use mathlib.Core.Path.{_≡_, refl, _∙_}
 use mathlib.Core.Bool.{Bool, false}
-use mathlib.Core.List.{List, [], _∷_, _++_, map, flatten, append-assoc}
+use mathlib.Core.List.{List, [], _∷_, map, flatten, append-assoc}
 use lib.ListN.{length, length-append}
-use lib.IntN.{ℤ, pos}
+use lib.IntN.{pos}
 use Rattle.lines.specs.declared.Line.{Line}
 use Rattle.lines.specs.Digits.{digits, signed, numeral}
 use Rattle.lines.specs.Collecting.{emptyLine, added, lineText, written}
 use Rattle.lines.proofs.HoldLaws.{added-append, written-added, written-text}
 use Rattle.lines.proofs.DigitLaws.{digits-length, numeral-length}
 use Rattle.script.specs.declared.Row.{Row}
-use Rattle.script.specs.Output.{header, fieldsText, rowText}
+use Rattle.script.specs.Output.{fieldsText, rowText}
 
 pub written-all : (text : List ℕ) → length text ≤ 120 → added emptyLine text ≡ written text
 written-all text h = written-added text [] (omega arith)

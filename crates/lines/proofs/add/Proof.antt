@@ -1,11 +1,10 @@
 -- `lines::add` meets its contract. The loop's invariant: the rest of the bytes added to the line so far come to all of them added to the line. The
 -- measure is what is left of the bytes. Assumes nothing.
 use Prim.Native.Nat.{_-_, _≤_}
-use mathlib.Core.Path.{_≡_, refl, ap, _∙_}
+use mathlib.Core.Path.{_≡_, refl, _∙_}
 use native.Mathlib.Omega.{arith}
 use borrow.Author.Needs.{needs}
 use lib.ListN.{length, drop}
-use Rattle.lines.specs.declared.Line.{Line}
 use Rattle.lines.specs.Collecting.{added}
 use Rattle.lines.proofs.StepLaws.{added-kept, added-lost, added-end}
 use Rattle.lines.proofs.add.Statement.{statement}

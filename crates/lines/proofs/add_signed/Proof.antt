@@ -1,5 +1,5 @@
 -- `lines::add_signed` meets its contract, by the sign. Assumes nothing.
-use mathlib.Core.Path.{_≡_, sym, _∙_}
+use mathlib.Core.Path.{_∙_}
 use borrow.Author.Tests.{not-true, not-false}
 use Rattle.lines.specs.Collecting.{added}
 use Rattle.lines.proofs.DigitLaws.{numeral-plain, numeral-zero, numeral-minus}

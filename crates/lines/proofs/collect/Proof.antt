@@ -1,7 +1,6 @@
 -- `lines::collect` meets its contract: the bytes up to the first newline, or all, are added to the line. Assumes nothing.
 use Prim.Native.Nat.{_≤_}
 use mathlib.Core.Path.{sym}
-use native.Mathlib.Omega.{arith}
 use lib.ListN.{length}
 use lib.Seq.{length-take-le}
 use borrow.Author.Needs.{needs}

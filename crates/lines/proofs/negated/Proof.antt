@@ -1,5 +1,5 @@
 -- `lines::negated` meets its contract, by cases on the number. Assumes nothing.
-use mathlib.Core.Path.{sym, ap, _∙_}
+use mathlib.Core.Path.{sym, ap}
 use borrow.Author.Tests.{eq-eqb, ne-eqb}
 use Rattle.lines.specs.Numbers.{withMinus}
 use borrow.Author.Needs.{needs}

@@ -1,7 +1,7 @@
 -- `lines::read_numbers` meets its contract. The loop's invariant: the first `count` values are the numbers of the fields up to `at`. The measure is
 -- what is left of the text. Assumes nothing.
 use Prim.Native.Nat.{_+_, _-_, _≤_}
-use mathlib.Core.Path.{_≡_, refl, sym, _∙_}
+use mathlib.Core.Path.{refl, sym, _∙_}
 use native.Mathlib.Omega.{arith}
 use borrow.Author.Needs.{needs}
 use lib.ListN.{length, drop}
@@ -97,7 +97,6 @@ loop-again : tie.Need-loop-again Inv-loop μ-loop
 loop-again c =
     let l = c .before .before .before .before .before .before .before .before .before .loop in
     let n = next (c .before .before .before .before .before) in
-    let v = c .before .n .given .0 in
     let good = sym (c .before .before .before .read-number .ensures) ∙ c .before .n .given .1 in
     (n .ends, omega arith, table-next _ (l .count) (l .values) _ (l .inv .2) _ _ (n .parts) _ _ good (omega arith))
 

@@ -1,5 +1,5 @@
 -- `lines::read_signed` meets its contract: a minus first, and the number behind it, or a number. Assumes nothing.
-use mathlib.Core.Path.{_≡_, sym, _∙_}
+use mathlib.Core.Path.{sym, _∙_}
 use native.Mathlib.Omega.{arith}
 use borrow.Author.Needs.{needs}
 use Rattle.lines.proofs.NumberLaws.{signed-none, signed-minus, signed-plain}
