@@ -58,9 +58,9 @@ unplaced = cellWord ++ 9 ∷ 53 ∷ 9 ∷ 48 ∷ 9 ∷ 48 ∷ 9 ∷ 48 ∷ 10 �
 abbrev outside : List ℕ
 outside = cellWord ++ 9 ∷ 48 ∷ 9 ∷ 48 ∷ 9 ∷ 48 ∷ 9 ∷ 50 ∷ 10 ∷ []
 
--- stall 1 2 1 1 1, and its cell 1 33 0 0: element (33, 1, 2) of the frame
-abbrev second : List ℕ
-second = stallWord ++ 9 ∷ 49 ∷ 9 ∷ 50 ∷ 9 ∷ 49 ∷ 9 ∷ 49 ∷ 9 ∷ 49 ∷ 10 ∷ cellWord ++ 9 ∷ 49 ∷ 9 ∷ 51 ∷ 51 ∷ 9 ∷ 48 ∷ 9 ∷ 48 ∷ 10 ∷ []
+-- cell 1 0 0 0
+abbrev moved : List ℕ
+moved = cellWord ++ 9 ∷ 49 ∷ 9 ∷ 48 ∷ 9 ∷ 48 ∷ 9 ∷ 48 ∷ 10 ∷ []
 
 -- the paper's output, byte by byte
 abbrev rows : List ℕ
@@ -78,6 +78,8 @@ pub record Computed : Type 0 where
       ≡ (1 ∷ 1 ∷ 0 ∷ []) ∷ (2 ∷ 24 ∷ 0 ∷ []) ∷ (3 ∷ 0 ∷ 480 ∷ []) ∷ (4 ∷ 0 ∷ 160 ∷ []) ∷ (5 ∷ 1 ∷ 0 ∷ []) ∷ (6 ∷ 8 ∷ 0 ∷ []) ∷ (7 ∷ 9 ∷ 0 ∷ []) ∷ (8 ∷ 0 ∷ 417 ∷ []) ∷ []
   -- an accepted second frame empties the slots
   pub emptied : printed (frame ++ stall ++ frame ++ cell) ≡ (1 ∷ 0 ∷ 480 ∷ []) ∷ (2 ∷ 0 ∷ 160 ∷ []) ∷ (3 ∷ 0 ∷ 480 ∷ []) ∷ (4 ∷ 8 ∷ 0 ∷ []) ∷ []
+  -- a cell is counted from its stall's corner
+  pub corner : printed (frame ++ overlapping ++ moved) ≡ (1 ∷ 0 ∷ 480 ∷ []) ∷ (2 ∷ 0 ∷ 80 ∷ []) ∷ (3 ∷ 0 ∷ 32 ∷ []) ∷ []
   -- fed in two parts, cut within the second line; the last line lacks its newline
   pub parts : lines (rowsOfParts startSheet ((frame ++ 115 ∷ 116 ∷ 97 ∷ []) ∷ (108 ∷ 108 ∷ 9 ∷ 48 ∷ 9 ∷ 48 ∷ 9 ∷ 48 ∷ 9 ∷ 50 ∷ 9 ∷ 50 ∷ 10 ∷ cell) ∷ []))
       ≡ (1 ∷ 0 ∷ 480 ∷ []) ∷ (2 ∷ 0 ∷ 160 ∷ []) ∷ (3 ∷ 0 ∷ 417 ∷ []) ∷ []
@@ -87,5 +89,5 @@ pub record Computed : Type 0 where
   pub none : printed [] ≡ []
 
 pub computed : Computed
-unfolding requireAt inOrder leaves elementBytes surfaces elementPosition cubeExtent spanInside spanHas sizeTaken sizesTaken wholeAtoms stridesTaken layoutChecks slotOf slotsOf rectangleHas occupied anyFrom overlaps rectangleInside slotAt isFilled rectangleOf placeChecks boxInRectangle slotChecks regionBoxChecks placeAnswer placeTable before split fieldsOf withoutEmptyLast linesOf partLength sameText isDigit allDigits digitsAfter isEmpty wellBegun numberOf andNumber listed inTable numbersOf withByte added lineText nextLines collected shaped frameOf stallOf cellOf byWord byFields recordOf lineRecord framedOr recordAnswer recordValue recordDone valueAfter deskAfter rowOf rowsAfter sheet startSheet lineEnded lineRow fed finished andThen partFed rowsOfParts output rowText fieldsText digits leadingIn numeral flatten
-computed = record { text = refl; session = refl; ended = refl; refused = refl; emptied = refl; parts = refl; corner = refl; none = refl }
+unfolding requireAt inOrder leaves elementBytes surfaces elementPosition cubeExtent spanInside spanHas sizeTaken sizesTaken wholeAtoms stridesTaken layoutChecks slotOf slotsOf rectangleHas taken anyFrom overlaps rectangleInside slotAt isFilled rectangleOf placeChecks boxInRectangle areaChecks placeAnswer placeTable before split fieldsOf withoutEmptyLast linesOf partLength sameText isDigit allDigits digitsAfter isEmpty wellBegun numberOf andNumber listed inTable numbersOf withByte added lineText nextLines collected shaped frameOf stallOf cellOf byWord byFields recordOf lineRecord framedOr recordAnswer recordValue recordDone valueAfter deskAfter rowOf rowsAfter sheet startSheet lineEnded lineRow fed finished andThen partFed rowsOfParts output rowText fieldsText digits leadingIn numeral flatten
+computed = record { text = refl; session = refl; ended = refl; refused = refl; emptied = refl; corner = refl; parts = refl; none = refl }
