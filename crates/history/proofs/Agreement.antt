@@ -25,7 +25,7 @@ use Rattle.regions.specs.Slots.{filled, slotOf, slotsOf}
 use Rattle.regions.specs.Rules.{placeChecks, readChecks, editChecks, rectangleAt, cubeBox}
 use Rattle.regions.specs.Calls.{placedRegion, placeAnswer, placeTable, editAnswer, editBuffer, readAnswer, readElements}
 use Rattle.regions.proofs.CallLaws.{read-accepted, edit-accepted}
-use Rattle.history.specs.Program.{Call, place, edit, read, none, Reply, lends, SixteenBit, State, step}
+use Rattle.history.specs.Program.{Call, place, edit, read, none, lends, SixteenBit, State, step}
 use Rattle.history.specs.Model.{boxWritten, boxRead, Plain, plainAnswer, plainStep}
 use Rattle.history.proofs.TensorLaws.{boxWritten-length, packed-boxWritten, Fits, boxWritten-fits, packed-boxRead}
 

@@ -20,7 +20,6 @@ use Rattle.elements.specs.Values.{valueChecks}
 use Rattle.layout.specs.declared.CubeLayout.{CubeLayout}
 use Rattle.layout.specs.declared.ElementBox.{ElementBox}
 use Rattle.layout.specs.Boxes.{oneElement, boxCount}
-use Rattle.layout.specs.Geometry.{elementPosition}
 use Rattle.layout.specs.Rules.{boxChecks, storageChecks, admitChecks}
 use Rattle.layout.specs.Calls.{writeBoxAnswer, writeBoxBuffer, readBoxAnswer, readBoxElements, positionQuantity}
 use Rattle.layout.proofs.BoxLaws.{taken-box}

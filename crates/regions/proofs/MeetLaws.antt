@@ -4,7 +4,7 @@
 use Prim.Native.Nat.{ℕ, _+_, _≤_, _<_}
 use native.Mathlib.Decide.{decLe, decLt}
 use native.Mathlib.Omega.{arith}
-use mathlib.Core.Path.{_≡_, refl, sym, ap, _∙_}
+use mathlib.Core.Path.{_≡_, refl, ap}
 use mathlib.Core.Bool.{Bool, true, false, _&&_}
 use mathlib.Core.List.{List}
 use lib.ListN.{length, getD, List·getD-eq-default}
@@ -12,7 +12,7 @@ use lib.Dec.{leb, ltb}
 use borrow.Author.Tests.{le-leb, leb-true, lt-ltb, ltb-true}
 use Rattle.refusal.proofs.TestLaws.{and-left, and-right, and-both}
 use Rattle.regions.specs.declared.Rectangle.{Rectangle}
-use Rattle.regions.specs.Slots.{Slot, empty, filled, rectangleHas, overlaps}
+use Rattle.regions.specs.Slots.{Slot, empty, filled, overlaps}
 use Rattle.regions.specs.Rules.{slotAt}
 use Rattle.regions.specs.Overlaps.{Shared}
 use Rattle.regions.specs.Steps.{spansMeet, slotMeets}

@@ -2,16 +2,12 @@
 --     box-same                        the elements of a box depend on their bytes alone
 --     same-answer, same-elements      two reads that agree
 use Prim.Native.Nat.{ℕ, _+_, _<_}
-use mathlib.Core.Path.{_≡_, refl, sym, ap, _∙_}
-use mathlib.Core.Bool.{true, _&&_}
-use mathlib.Core.List.{List, [], _∷_, _++_}
+use mathlib.Core.Path.{_≡_, sym, _∙_}
+use mathlib.Core.Bool.{true}
+use mathlib.Core.List.{List}
 use lib.ListN.{length, getD}
-use lib.Dec.{ltb}
 use lib.IntN.{ℤ, pos}
-use Rattle.refusal.specs.declared.Answer.{Answer}
 use Rattle.refusal.specs.declared.Answer.the-variants.{Accepted}
-use Rattle.refusal.specs.declared.Refusal.the-variants.{Slot as SlotRefusal, Bounds}
-use Rattle.refusal.specs.Checks.{require, inOrder}
 use Rattle.refusal.proofs.CheckLaws.{leaves-done}
 use Rattle.elements.proofs.ByteLaws.{elementAt-ext}
 use Rattle.elements.proofs.TabulateLaws.{tabulate-ext}
@@ -19,12 +15,11 @@ use Rattle.layout.specs.declared.CubeLayout.{CubeLayout}
 use Rattle.layout.specs.declared.ElementBox.{ElementBox}
 use Rattle.layout.specs.Geometry.{sizeOf, elementPosition}
 use Rattle.layout.specs.Boxes.{boxCount, boxHas, channelAt, rowAt, columnAt}
-use Rattle.layout.specs.Rules.{layoutChecks, storageChecks}
 use Rattle.layout.specs.Contents.{storedElement, boxElements}
 use Rattle.layout.proofs.BoxLaws.{BoxTaken, at-in, in-boxHas}
 use Rattle.regions.specs.declared.RegionTable.{RegionTable}
-use Rattle.regions.specs.Slots.{Slot, slotsOf, rectangleInside}
-use Rattle.regions.specs.Rules.{slotAt, isFilled, rectangleOf, rectangleAt, boxInRectangle, cubeBox, slotChecks, regionBoxChecks, readChecks}
+use Rattle.regions.specs.Slots.{slotsOf}
+use Rattle.regions.specs.Rules.{rectangleAt, cubeBox, slotChecks, regionBoxChecks, readChecks}
 use Rattle.regions.specs.Calls.{readAnswer, readElements}
 use Rattle.regions.specs.Reads.{SameRead}
 use Rattle.regions.proofs.CallLaws.{read-accepted}
@@ -45,29 +40,12 @@ module _ (q : CubeLayout) (box : ElementBox) (buffer buffer′ : List ℕ)
       (λ (i : ℕ). storedElement q buffer′ (channelAt box i) (rowAt box i) (columnAt box i))
       (λ i l. stored-same (channelAt box i) (rowAt box i) (columnAt box i) (in-boxHas box (channelAt box i) (rowAt box i) (columnAt box i) (at-in box i l (t .rows .some) (t .columns .some))))
 
--- ---- the checks look at the named slot alone
-
-checksOf : CubeLayout → Slot → ℕ → ElementBox → ℕ → ℕ → List Answer
-checksOf q s n b given len =
-    ((layoutChecks q ++ (require SlotRefusal (ltb n 16 && isFilled s) ∷ []))
-    ++ (require Bounds (rectangleInside q (rectangleOf s)) ∷ require Bounds (boxInRectangle q (rectangleOf s) b) ∷ []))
-    ++ storageChecks q (boxCount b) given len
-
-by-slot : (q : CubeLayout) (slots : List Slot) (n : ℕ) (b : ElementBox) (given len : ℕ) → readChecks q slots n b given len ≡ checksOf q (slotAt slots n) n b given len
-unfolding readChecks regionBoxChecks slotChecks checksOf
-by-slot q slots n b given len = refl
-
 -- ---- two reads
 
 module _ (n : ℕ) (b : ElementBox) (t t′ : RegionTable) (buffer buffer′ : List ℕ) (xs xs′ : List ℤ) (same : SameRead n b t t′ buffer buffer′ xs xs′) where
   pub same-answer : readAnswer t n b (length xs) (length buffer) ≡ readAnswer t′ n b (length xs′) (length buffer′)
-  unfolding readAnswer
-  same-answer =
-      let checks : checksOf (t .layout) (slotAt (slotsOf t) n) n b (length xs) (length buffer) ≡ checksOf (t′ .layout) (slotAt (slotsOf t′) n) n b (length xs′) (length buffer′) =
-      rw (same .slot, same .layout, same .buffers, same .lent)
-      in
-      ap inOrder (by-slot (t .layout) (slotsOf t) n b (length xs) (length buffer) ∙ checks)
-      ∙ sym (ap inOrder (by-slot (t′ .layout) (slotsOf t′) n b (length xs′) (length buffer′)))
+  unfolding readAnswer readChecks regionBoxChecks slotChecks
+  same-answer = rw (same .slot, same .layout, same .buffers, same .lent)
 
   pub same-elements : readAnswer t n b (length xs) (length buffer) ≡ Accepted → readElements t n b buffer xs ≡ readElements t′ n b buffer′ xs′
   unfolding readElements readAnswer
