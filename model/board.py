@@ -1,16 +1,23 @@
 """Runs board commands on the model, and writes crates/board/stdin and stdout.
 
-Renders the scope paper's sections "Cells and cubes", "Stalls" and "Weights" on
-contents that are written out; docs/TESTING.md has the commands. The cases are
-those of board_cases.txt. Below their last line, the mark, stand the cases that
-were added by hand: these are kept with the output that was stored for them.
+Renders every section of the scope paper through the model's calls;
+docs/TESTING.md has the commands. The cases are those of board_cases.txt, which
+are written out, and those of bulk.py, which are drawn. Below their last line,
+the mark, stand the cases that were added by hand: these are kept with the
+output that was stored for them, under the numbers that their lines have now.
 """
 
 import re
 from pathlib import Path
 
+import bulk
+import camera
 import cube
+import lut
+import pixels
+import quantize
 import regions
+import sheet
 import weights
 
 HERE = Path(__file__).resolve().parent
@@ -19,8 +26,11 @@ INPUT = HERE.parent / "crates" / "board" / "stdin"
 OUTPUT = HERE.parent / "crates" / "board" / "stdout"
 MARK = "# cases of your own go below this line"
 
-COUNT_MAX = 65536
+ROOM = {"elements": 307200, "buffer": 2457600, "samples": 65536}
+OUTPUTS_MAX = 65536
+CUTS_MAX = 400
 ROW = 32
+S32_MIN = -2147483648
 
 
 class Unreadable(Exception):
@@ -29,192 +39,443 @@ class Unreadable(Exception):
 
 # --- words ---
 
-def in_range(word, pattern, base, low, high):
-    """The number of a word of the pattern's shape, from low to high."""
-    if not re.fullmatch(pattern, word):
+def ranged(pattern, base, low, high):
+    """A kind of words: of the pattern's shape, and a number from low to high."""
+    def read(word):
+        if not re.fullmatch(pattern, word) or not low <= int(word, base) <= high:
+            raise Unreadable
+        return int(word, base)
+    return read
+
+
+natural = ranged("[0-9]+", 10, 0, cube.U32_MAX)
+signed = ranged("-?[0-9]+", 10, S32_MIN, 2147483647)
+element = ranged("-?[0-9]+", 10, -32768, 32767)
+byte = ranged("[0-9a-fA-F]{2}", 16, 0, 255)
+
+KINDS = {"n": natural, "s": signed, "e": element, "b": byte}
+MEMBERS = {"elements": element, "buffer": byte, "samples": signed}
+
+
+def numbers(words, kinds):
+    """What the words say, one of each kind and no other."""
+    if len(words) != len(kinds):
         raise Unreadable
-    number = int(word, base)
-    if not low <= number <= high:
-        raise Unreadable
-    return number
+    return [KINDS[kind](word) for word, kind in zip(words, kinds)]
 
 
-def natural(word):
-    """An unsigned number of 32 bits."""
-    return in_range(word, "[0-9]+", 10, 0, cube.U32_MAX)
+def members(words, name):
+    """The members of a list; `v*N` is N of them."""
+    listed = []
+    for word in words:
+        value, *times = word.split("*", 1)
+        count = natural(times[0]) if times else 1
+        if not 1 <= count <= ROOM[name] - len(listed):
+            raise Unreadable
+        listed += [MEMBERS[name](value)] * count
+    return listed
 
 
-def element(word):
-    """A signed number of 16 bits."""
-    return in_range(word, "-?[0-9]+", 10, -32768, 32767)
+# --- contents ---
+
+def draws(seed):
+    """The endless 32-bit numbers that follow from a seed, each of two steps of 31 bits."""
+    x = seed
+    while True:
+        x = (x * 1103515245 + 12345) % 2147483648
+        high = x // 32768
+        x = (x * 1103515245 + 12345) % 2147483648
+        yield high * 65536 + x // 32768
 
 
-def byte(word):
-    """A byte of two hexadecimal digits."""
-    return in_range(word, "[0-9a-fA-F]{2}", 16, 0, 255)
+def wrapped(value, low, size):
+    """The number from low to low + size - 1 that is a value modulo size."""
+    return (value - low) % size + low
 
 
-def numbers(words, count):
-    """So many unsigned numbers, and no other word."""
-    if len(words) != count:
-        raise Unreadable
-    return [natural(word) for word in words]
+def drawn(name, count, seed, base=0, span=0, step=0):
+    """Members of a list: base + i * step + a draw modulo span; a span of 0 leaves the draw as it is."""
+    low, size = {"elements": (-32768, 65536), "buffer": (0, 256), "samples": (S32_MIN, 4294967296)}[name]
+    source = draws(seed)
+    return [wrapped(base + i * step + (next(source) % span if span else next(source)), low, size)
+            for i in range(count)]
 
 
-def listed(words, kind):
-    """What each word says; there are at most 65536."""
-    if len(words) > COUNT_MAX:
-        raise Unreadable
-    return [kind(word) for word in words]
+def checksum(values):
+    """One number for a list of numbers."""
+    s = 0
+    for v in values:
+        s = (s * 65599 + (v - S32_MIN) % 4294967296 + 1) % 4294967296
+    return s
 
 
-def repeated(words, kind):
-    """A count of at most 65536 and a value, as so many of the value."""
-    if len(words) != 2 or natural(words[0]) > COUNT_MAX:
-        raise Unreadable
-    return [kind(words[1])] * natural(words[0])
-
-
-# --- lines of output ---
-
-def rows(values):
+def rows(name, values):
     """The values, 32 a line; no line if there are none."""
-    return [" ".join(values[at:at + ROW]) for at in range(0, len(values), ROW)]
-
-
-def byte_rows(buffer):
-    """A buffer's lines."""
-    return rows([f"{value:02x}" for value in buffer])
-
-
-def element_rows(elements):
-    """The elements' lines."""
-    return rows([str(value) for value in elements])
+    texts = [f"{v:02x}" for v in values] if name == "buffer" else [str(v) for v in values]
+    return [" ".join(texts[at:at + ROW]) for at in range(0, len(texts), ROW)]
 
 
 # --- commands ---
 
+EVERYTHING = {"elements", "buffer", "samples", "desk", "x", "y", "bits", "counters"}
+SETTINGS = {"x", "y", "bits"}
+PACKED = {"elements", "buffer"}
+# name: the words' kinds, what it sets, what it looks at; a list's name as kinds is a list of its members
+COMMANDS = {
+    **{name: (name, {name}, set()) for name in ROOM},
+    "cells": ("ne", {"elements"}, set()),
+    "fill": ("nb", {"buffer"}, set()),
+    **{f"{verb} {name}": (kinds, {name}, looks) for name, kinds in
+       (("elements", "nnens"), ("buffer", "nn"), ("samples", "nnsn"))
+       for verb, looks in (("draw", set()), ("more", {name}))},
+    "draw curves": ("n", {"elements"}, set()),
+    "set element": ("ne", {"elements"}, {"elements"}),
+    "print all": ("", set(), set()),
+    "print sums": ("", set(), set()),
+    **{f"{verb} {name}": ("", set(), {name}) for verb in ("show", "sum") for name in ROOM},
+    "pack": ("n" * 7, {"buffer"}, PACKED),
+    "write": ("n" * 13, {"buffer"}, PACKED),
+    "pack_weights": ("n" * 5, {"buffer"}, PACKED),
+    "edit": ("n" * 7, {"buffer"}, PACKED | {"desk"}),
+    "unpack": ("n" * 7, {"elements"}, PACKED),
+    "read": ("n" * 13, {"elements"}, PACKED),
+    "unpack_weights": ("n" * 5, {"elements"}, PACKED),
+    "look": ("n" * 7, {"elements"}, PACKED | {"desk"}),
+    "desk": ("n" * 7, {"desk"}, set()),
+    "place": ("n" * 5, {"desk"}, {"desk"}),
+    "hand slot": ("n" * 6, {"desk"}, {"desk"}),
+    "hand layout": ("n" * 7, {"desk"}, {"desk"}),
+    "pixel setting": ("n" * 8, set(), set()),
+    "position": ("n" * 10, set(), set()),
+    "extent": ("n" * 7, set(), set()),
+    "pixel position": ("n" * 10, set(), set()),
+    "convert": ("seenn", set(), set()),
+    "curve x": ("n", set(), set()),
+    "curve y": ("n", set(), set()),
+    "x linear": ("ssseses", {"x"}, set()),
+    "x exponential": ("ssseses", {"x"}, set()),
+    "y": ("ssseses", {"y"}, set()),
+    "bits": ("nnn", {"bits"}, set()),
+    "counters": ("nnnnn", {"counters"}, set()),
+    "ready": ("snnn", SETTINGS, SETTINGS),
+    "lookup": ("nnn", {"counters"}, SETTINGS | {"elements", "samples", "counters"}),
+    "sheet": ("", set(), {"buffer"}),
+}
+
+
+def named(text):
+    """The command that a line begins with, and its words; no name begins with another and a space."""
+    words = text.split(" ")
+    for k in range(1, len(words) + 1):
+        if " ".join(words[:k]) in COMMANDS:
+            return " ".join(words[:k]), words[k:]
+    return None, []
+
+
 class Board:
-    """What is lent, and the region table; before the first line nothing, and one of zeros."""
+    """What the lines leave for the next: the lists, the region table, the lookup, how to print, what is spoilt.
+
+    Beside the table goes the plain picture, from a desk of the layout that was
+    packed last until a line changes buffer or table by other means. After every
+    call the two must agree.
+    """
 
     def __init__(self):
-        self.elements, self.buffer = [], b""
-        self.table = regions.empty_table(cube.CubeLayout(0, 0, 0, 0, 0, 0, 0))
+        self.lists = {"elements": [], "buffer": b"", "samples": []}
+        self.spoilt, self.sums = set(), False
+        self.table = regions.empty_table(cube.CubeLayout(*[0] * 7))
+        self.packed, self.picture = None, None
+        flat = lut.Slope(0, 0)
+        x, y = lut.XSettings(lut.LINEAR, 0, 0, 0, flat, flat), lut.YSettings(0, 0, 0, flat, flat)
+        self.settings, self.counters = lut.LutSettings(x, y, lut.X, lut.X, lut.X), (0,) * 5
 
     # --- what is lent ---
 
-    def lend(self, name, words):
-        """`elements`, `cells`, `buffer`, `fill`."""
-        if name == "elements":
-            self.elements = listed(words, element)
-        elif name == "cells":
-            self.elements = repeated(words, element)
-        elif name == "buffer":
-            self.buffer = bytes(listed(words, byte))
-        else:
-            self.buffer = bytes(repeated(words, byte))
-        return []
+    def lend(self, name, values):
+        """Lends a list anew."""
+        if len(values) > ROOM[name]:
+            raise Unreadable
+        self.lists[name] = bytes(values) if name == "buffer" else values
+        if name == "buffer":
+            self.packed = self.picture = None
 
-    def show(self, words):
-        """`show buffer`, `show elements`."""
-        if words == ["buffer"]:
-            return byte_rows(self.buffer)
-        if words == ["elements"]:
-            return element_rows(self.elements)
-        raise Unreadable
+    def repeat(self, name, count, value):
+        """`cells`, `fill`."""
+        if count > ROOM[name]:
+            raise Unreadable
+        self.lend(name, [value] * count)
+
+    def draw(self, name, more, count, *source):
+        """`draw`, `more`."""
+        before = list(self.lists[name]) if more else []
+        if count > ROOM[name] - len(before):
+            raise Unreadable
+        self.lend(name, before + drawn(name, count, *source))
+
+    def curves(self, count):
+        """`draw curves`: the entries of X, then those of Y, the last again and again."""
+        if count > ROOM["elements"]:
+            raise Unreadable
+        entries = camera.X_CURVE + camera.Y_CURVE
+        self.lend("elements", [entries[min(i, len(entries) - 1)] for i in range(count)])
+
+    def set_element(self, index, value):
+        """`set element`."""
+        elements = list(self.lists["elements"])
+        if index >= len(elements):
+            raise Unreadable
+        elements[index] = value
+        self.lists["elements"] = elements
 
     # --- answers ---
 
-    def wrote(self, answer):
-        """The lines of a call that may write the buffer."""
-        code, index, self.buffer = answer
-        return [f"{code} {index}"] + byte_rows(self.buffer)
+    def left(self, answer, name):
+        """The lines of a call that may change a list: its answer, and the list or the checksums of elements and buffer."""
+        code, index, self.lists[name] = answer
+        if self.sums:
+            return [f"{code} {index} {checksum(self.lists['elements'])} {checksum(self.lists['buffer'])}"]
+        return [f"{code} {index}"] + rows(name, self.lists[name])
 
-    def filled(self, answer):
-        """The lines of a call that may fill the elements."""
-        code, index, self.elements = answer
-        return [f"{code} {index}"] + element_rows(self.elements)
+    # --- cubes, weights, regions ---
 
-    # --- calls ---
-
-    def on_cube(self, name, words):
+    def on_cube(self, name, given):
         """`pack`, `unpack`; with a box `write`, `read`."""
-        given = numbers(words, 7 if name in ("pack", "unpack") else 13)
-        q, lent = cube.CubeLayout(*given[:7]), (self.elements, self.buffer)
+        q, lent = cube.CubeLayout(*given[:7]), (self.lists["elements"], self.lists["buffer"])
         if name == "pack":
-            return self.wrote(cube.pack(q, *lent))
+            answer = cube.pack(q, *lent)
+            self.picture, self.packed = None, None if answer[0] else (q, *lent)
+            return self.left(answer, "buffer")
         if name == "unpack":
-            return self.filled(cube.unpack(q, *lent))
+            return self.left(cube.unpack(q, *lent), "elements")
         box = cube.Box(*given[7:])
         if name == "write":
-            return self.wrote(cube.write_box(q, box, *lent))
-        return self.filled(cube.read_box(q, box, *lent))
+            self.picture = self.packed = None
+            return self.left(cube.write_box(q, box, *lent), "buffer")
+        return self.left(cube.read_box(q, box, *lent), "elements")
 
-    def on_weights(self, name, words):
+    def on_weights(self, name, given):
         """`pack_weights`, `unpack_weights`."""
-        q = weights.WeightLayout(*numbers(words, 5))
-        if name == "pack_weights":
-            return self.wrote(weights.pack(q, self.elements, self.buffer))
-        return self.filled(weights.unpack(q, self.elements, self.buffer))
+        q, lent = weights.WeightLayout(*given), (self.lists["elements"], self.lists["buffer"])
+        if name == "unpack_weights":
+            return self.left(weights.unpack(q, *lent), "elements")
+        self.picture = self.packed = None
+        return self.left(weights.pack(q, *lent), "buffer")
 
-    def on_table(self, name, words):
-        """`desk`, `place`, `edit`, `look`."""
-        given = numbers(words, 5 if name == "place" else 7)
+    def on_box(self, name, slot, *box):
+        """`edit`, `look`."""
+        called = (slot, cube.Box(*box), self.lists["elements"])
+        if name == "edit":
+            answer = regions.edit(self.table, *called, self.lists["buffer"])
+            assert not self.picture or self.picture.edit(*called) == answer[:2]
+            self.packed = None
+            out = self.left(answer, "buffer")
+        else:
+            answer = regions.read(self.table, *called, self.lists["buffer"])
+            assert not self.picture or self.picture.read(*called) == answer
+            out = self.left(answer, "elements")
+        self.check_picture()
+        return out
+
+    def on_table(self, name, given):
+        """`desk`, `place`, `hand slot`, `hand layout`."""
+        code, index = 0, 0
         if name == "desk":
-            self.table = regions.empty_table(cube.CubeLayout(*given))
-            return ["0 0"]
-        slot = given[0]
-        if name == "place":
-            code, index, self.table = regions.place(self.table, slot, regions.Rectangle(*given[1:]))
-            return [f"{code} {index}"]
-        called = (self.table, slot, cube.Box(*given[1:]), self.elements, self.buffer)
-        return self.wrote(regions.edit(*called)) if name == "edit" else self.filled(regions.read(*called))
+            q = cube.CubeLayout(*given)
+            self.table = regions.empty_table(q)
+            self.picture = regions.PlainPicture(*self.packed) if self.packed and self.packed[0] == q else None
+        elif name == "place":
+            g = regions.Rectangle(*given[1:])
+            code, index, self.table = regions.place(self.table, given[0], g)
+            assert not self.picture or self.picture.place(given[0], g) == (code, index)
+        else:
+            self.by_hand(name, given)
+        self.check_picture()
+        return [f"{code} {index}"]
 
-    def command(self, name, *words):
-        """The lines that a command prints."""
-        words = list(words)
-        if name in ("elements", "cells", "buffer", "fill"):
-            return self.lend(name, words)
-        if name == "show":
-            return self.show(words)
+    def by_hand(self, name, given):
+        """Changes the table without a call."""
+        self.packed = self.picture = None
+        if name == "hand layout":
+            self.table = self.table._replace(layout=cube.CubeLayout(*given))
+        elif given[0] < regions.SLOT_COUNT:
+            slot = regions.Slot(given[1] != 0, regions.Rectangle(*given[2:]))
+            self.table = self.table._replace(slots=regions.with_slot(self.table.slots, given[0], slot))
+
+    def check_picture(self):
+        """Asserts that the buffer is the plain picture, packed, and that the slots are its slots."""
+        if self.picture:
+            assert self.lists["buffer"] == self.picture.packed()
+            assert self.table == (self.picture.layout, self.picture.slots)
+
+    # --- values ---
+
+    def value(self, name, given):
+        """The commands that answer a code, an index and a value, or the first two alone."""
+        if name == "position":
+            answer = cube.position(cube.CubeLayout(*given[:7]), *given[7:])
+        elif name == "extent":
+            answer = cube.extent(cube.CubeLayout(*given))
+        elif name == "convert":
+            code, index, value = quantize.quantize(*given)
+            answer = code, index, 0 if code else value
+        elif name == "pixel setting":
+            answer = pixels.setting(pixels.PixelSetting(*given))[:2]
+        elif name == "pixel position":
+            answer = pixels.position(pixels.PixelSetting(*given[:8]), *given[8:])
+        else:
+            answer = 0, 0, camera.entry(lut.X if name == "curve x" else lut.Y, given[0])
+        return [" ".join(map(str, answer))]
+
+    # --- lookup ---
+
+    def set_lookup(self, name, given):
+        """`x linear`, `x exponential`, `y`, `bits`, `counters`."""
+        if name == "counters":
+            self.counters = tuple(given)
+        elif name == "bits":
+            bits = [lut.X if bit == 0 else lut.Y for bit in given]
+            self.settings = lut.LutSettings(self.settings.x, self.settings.y, *bits)
+        else:
+            slopes = lut.Slope(*given[3:5]), lut.Slope(*given[5:])
+            if name == "y":
+                self.settings = self.settings._replace(y=lut.YSettings(*given[:3], *slopes))
+            else:
+                mode = lut.LINEAR if name == "x linear" else lut.EXPONENTIAL
+                self.settings = self.settings._replace(x=lut.XSettings(mode, *given[:3], *slopes))
+        return []
+
+    def ready(self, s, *choices):
+        """`ready`."""
+        bits = [{0: lut.X, 1: lut.Y}.get(choice) for choice in choices]
+        code, index, settings = camera.ready_made(s, *bits)
+        if not code:
+            self.settings = settings
+        return [f"{code} {index}"]
+
+    def lookup(self, split, count, seed):
+        """`lookup`."""
+        entries = self.lists["elements"]
+        if split > len(entries) or count > OUTPUTS_MAX:
+            raise Unreadable
+        outputs = drawn("samples", count, seed)
+        code, index, outputs, self.counters = lut.run(self.settings, entries[:split], entries[split:],
+                                                      self.lists["samples"], outputs, self.counters)
+        head = " ".join(map(str, (code, index, *self.counters)))
+        return [f"{head} {checksum(outputs)}"] if self.sums else [head] + rows("samples", outputs)
+
+    # --- sheets ---
+
+    def sheet(self):
+        """`sheet`: the rows, and that no cut in two changes them."""
+        source = self.lists["buffer"]
+        cuts = len(source) + 1 if len(source) <= CUTS_MAX else CUTS_MAX
+        return [sheet.row_text(row).rstrip("\n") for row in sheet.rows(source)], f"same cuts {cuts}"
+
+    # --- lines ---
+
+    def lending(self, name, words):
+        """A command that lends; false if it is none."""
+        kinds = COMMANDS[name][0]
+        if name in ROOM:
+            self.lend(name, members(words, name))
+        elif name in ("cells", "fill"):
+            self.repeat({"cells": "elements", "fill": "buffer"}[name], *numbers(words, kinds))
+        elif name == "draw curves":
+            self.curves(*numbers(words, kinds))
+        elif name.startswith(("draw ", "more ")):
+            self.draw(name[5:], name.startswith("more "), *numbers(words, kinds))
+        elif name == "set element":
+            self.set_element(*numbers(words, kinds))
+        else:
+            return False
+        return True
+
+    def answered(self, name, words):
+        """The lines of a command's answer, the first without its number."""
+        given = numbers(words, COMMANDS[name][0])
         if name in ("pack", "unpack", "write", "read"):
-            return self.on_cube(name, words)
+            return self.on_cube(name, given)
         if name in ("pack_weights", "unpack_weights"):
-            return self.on_weights(name, words)
-        if name in ("desk", "place", "edit", "look"):
-            return self.on_table(name, words)
-        raise Unreadable
+            return self.on_weights(name, given)
+        if name in ("edit", "look"):
+            return self.on_box(name, *given)
+        if name in ("desk", "place", "hand slot", "hand layout"):
+            return self.on_table(name, given)
+        if name == "ready":
+            return self.ready(*given)
+        if name == "lookup":
+            return self.lookup(*given)
+        if name.startswith("sum "):
+            return [str(checksum(self.lists[name[4:]]))]
+        if COMMANDS[name][1]:
+            return self.set_lookup(name, given)
+        return self.value(name, given)
 
-    def line(self, text):
+    def command(self, number, name, words):
+        """The lines that a command prints."""
+        if self.lending(name, words):
+            return []
+        if name.startswith("show ") and not words:
+            return rows(name[5:], self.lists[name[5:]])
+        if name.startswith("print ") and not words:
+            self.sums = name == "print sums"
+            return []
+        if name == "sheet" and not words:
+            told, cuts = self.sheet()
+            return told + [f"{number}: {cuts}"]
+        out = self.answered(name, words)
+        return [f"{number}: {out[0]}", *out[1:]] if out else []
+
+    def line(self, number, text):
         """The lines that a line of input prints."""
         if not text or text.startswith("#"):
             return []
+        name, words = named(text)
+        _, sets, looks = COMMANDS.get(name, ("", EVERYTHING, set()))
         try:
-            return self.command(*text.split(" "))
+            if name is None:
+                raise Unreadable
+            if self.spoilt & looks:
+                self.check_words(name, words)
+                self.spoilt |= sets
+                return [f"{number}: not made"]
+            out = self.command(number, name, words)
         except Unreadable:
-            return ["unreadable"]
+            self.spoilt |= sets
+            return [f"{number}: unreadable"]
+        self.spoilt -= sets
+        return out
+
+    def check_words(self, name, words):
+        """Raises Unreadable if the words are not those of the command."""
+        if name not in ROOM:
+            numbers(words, COMMANDS[name][0])
 
 
 def printed(lines):
     """The lines that the lines of input print, one after the other."""
     board = Board()
-    return [out for text in lines for out in board.line(text)]
+    return [out for number, text in enumerate(lines, 1) for out in board.line(number, text)]
 
 
 # --- files ---
 
 def lines_of(path):
     """A file's lines; none if there is no file."""
-    return path.read_text(encoding="ascii").splitlines() if path.exists() else []
+    return path.read_text(encoding="ascii").split("\n")[:-1] if path.exists() else []
 
 
 def own_cases():
-    """The cases below the mark, and what is stored for them."""
+    """The cases below the mark, and what is stored for them; the numbers there are of lines below the mark."""
     given, stored = lines_of(INPUT), lines_of(OUTPUT)
     if MARK not in given:
         return [], []
     at = given.index(MARK) + 1
-    return given[at:], stored[len(printed(given[:at])):]
+    number = re.compile(r"(\d+)(?=: )")
+    first = [k for k, text in enumerate(stored) if (m := number.match(text)) and int(m[1]) > at]
+    own = stored[first[0]:] if first else []
+    return given[at:], [number.sub(lambda m: str(int(m[1]) - at), text, count=1) if number.match(text) else text
+                        for text in own]
 
 
 def write(path, lines):
@@ -225,6 +486,7 @@ def write(path, lines):
 
 if __name__ == "__main__":
     own, stored = own_cases()
-    cases = lines_of(CASES) + [MARK]
+    cases = lines_of(CASES) + bulk.lines() + ["print all", MARK]
     write(INPUT, cases + own)
-    write(OUTPUT, printed(cases) + stored)
+    numbered = [re.sub(r"^(\d+)(?=: )", lambda m: str(int(m[1]) + len(cases)), text) for text in stored]
+    write(OUTPUT, printed(cases) + numbered)

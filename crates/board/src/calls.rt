@@ -1,158 +1,209 @@
-// The calls on the library, from the numbers of a line's rest.
-use crate::commands::Command;
+// The calls on cubes, weights and regions, from the numbers of a line; and those that answer a value.
+use crate::line::natural;
+use crate::line::short;
+use crate::line::signed;
+use crate::numbers::of_short;
+use crate::print::end_line;
 use crate::print::print_answer;
-use crate::print::print_bytes;
-use crate::print::print_elements;
-use crate::words::number_at;
+use crate::print::print_natural;
+use crate::print::print_signed;
 use layout::CubeLayout;
 use layout::ElementBox;
+use pixels::PixelSetting;
+use quantize::Quantized;
 use refusal::Answer;
+use refusal::Quantity;
 use regions::Outcome;
-use regions::Rectangle;
+use regions::Region;
 use regions::RegionTable;
+use std::num::wrapping_add_usize;
 use weights::WeightLayout;
 
-// The cube layout: numbers 0 to 6, `W H C precision line surface start`.
-pub fn cube_layout(rest: &[u8]) -> CubeLayout {
+// Numbers 0 to 6, `W H C precision line surface start`.
+pub fn cube_layout(n: [u64; 16]) -> CubeLayout {
     CubeLayout {
-        width: number_at(rest, 0),
-        height: number_at(rest, 1),
-        channels: number_at(rest, 2),
-        precision: number_at(rest, 3),
-        line: number_at(rest, 4),
-        surface: number_at(rest, 5),
-        start: number_at(rest, 6),
+        width: natural(n, 0),
+        height: natural(n, 1),
+        channels: natural(n, 2),
+        precision: natural(n, 3),
+        line: natural(n, 4),
+        surface: natural(n, 5),
+        start: natural(n, 6),
     }
 }
 
-// The weight layout: numbers 0 to 4, `K C R S precision`.
-fn weight_layout(rest: &[u8]) -> WeightLayout {
+// Numbers 0 to 4, `K C R S precision`.
+fn weight_layout(n: [u64; 16]) -> WeightLayout {
     WeightLayout {
-        kernels: number_at(rest, 0),
-        channels: number_at(rest, 1),
-        rows: number_at(rest, 2),
-        columns: number_at(rest, 3),
-        precision: number_at(rest, 4),
+        kernels: natural(n, 0),
+        channels: natural(n, 1),
+        rows: natural(n, 2),
+        columns: natural(n, 3),
+        precision: natural(n, 4),
     }
 }
 
-// The box of a cube: numbers 7 to 12, `c h w nc nh nw`.
-fn cube_box(rest: &[u8]) -> ElementBox {
+// Numbers `c h w nc nh nw`, the first number k.
+fn box_at(n: [u64; 16], k: usize) -> ElementBox {
     ElementBox {
-        channel: number_at(rest, 7),
-        row: number_at(rest, 8),
-        column: number_at(rest, 9),
-        channels: number_at(rest, 10),
-        rows: number_at(rest, 11),
-        columns: number_at(rest, 12),
+        channel: natural(n, k),
+        row: natural(n, wrapping_add_usize(k, 1)),
+        column: natural(n, wrapping_add_usize(k, 2)),
+        channels: natural(n, wrapping_add_usize(k, 3)),
+        rows: natural(n, wrapping_add_usize(k, 4)),
+        columns: natural(n, wrapping_add_usize(k, 5)),
     }
 }
 
-// The box of a region: numbers 1 to 6, `c h w nc nh nw` from the region's corner.
-fn region_box(rest: &[u8]) -> ElementBox {
-    ElementBox {
-        channel: number_at(rest, 1),
-        row: number_at(rest, 2),
-        column: number_at(rest, 3),
-        channels: number_at(rest, 4),
-        rows: number_at(rest, 5),
-        columns: number_at(rest, 6),
+// Numbers 0 to 7, `format width height channels precision offset start line`.
+fn pixel_setting(n: [u64; 16]) -> PixelSetting {
+    PixelSetting {
+        format: natural(n, 0),
+        width: natural(n, 1),
+        height: natural(n, 2),
+        channels: natural(n, 3),
+        precision: natural(n, 4),
+        offset: natural(n, 5),
+        start: natural(n, 6),
+        line: natural(n, 7),
     }
 }
 
-// A call on a cube or on weights; any other command counts as `unpack_weights`.
-fn call_packing(command: Command, rest: &[u8], elements: &mut [i16], buffer: &mut [u8]) -> Answer {
+// `pack`, `write`, `pack_weights`, `unpack`, `read`, `unpack_weights`; any other counts as `pixel setting`.
+fn answered(command: u32, n: [u64; 16], elements: &mut [i16], buffer: &mut [u8]) -> Answer {
     match command {
-        Command::Pack => cube::pack(cube_layout(rest), elements, buffer),
-        Command::Unpack => cube::unpack(cube_layout(rest), buffer, elements),
-        Command::Write => cube::write_box(cube_layout(rest), cube_box(rest), elements, buffer),
-        Command::Read => cube::read_box(cube_layout(rest), cube_box(rest), buffer, elements),
-        Command::PackWeights => weights::pack(weight_layout(rest), elements, buffer),
-        _ => weights::unpack(weight_layout(rest), buffer, elements),
+        21 => cube::pack(cube_layout(n), elements, buffer),
+        22 => cube::write_box(cube_layout(n), box_at(n, 7), elements, buffer),
+        23 => weights::pack(weight_layout(n), elements, buffer),
+        25 => cube::unpack(cube_layout(n), buffer, elements),
+        26 => cube::read_box(cube_layout(n), box_at(n, 7), buffer, elements),
+        27 => weights::unpack(weight_layout(n), buffer, elements),
+        _ => pixels::setting(pixel_setting(n)),
     }
 }
 
-// An answer, and the table handed back.
-fn outcome_of(answer: Answer, table: RegionTable) -> Outcome {
-    Outcome {
-        answer: answer,
-        table: table,
+// The table with numbers 1 to 5, `placed w0 h0 w h`, put in the slot of number 0 by hand; a slot above 15 changes nothing.
+fn with_slot(n: [u64; 16], table: RegionTable) -> RegionTable {
+    let i = natural(n, 0) as usize;
+    let mut t = table;
+    if i < 16 {
+        t.slots[i] = Region {
+            placed: natural(n, 1) != 0,
+            column: natural(n, 2),
+            row: natural(n, 3),
+            columns: natural(n, 4),
+            rows: natural(n, 5),
+        };
     }
+    t
 }
 
-// `desk`: the empty table of a layout, which nothing refuses.
-fn desk(rest: &[u8]) -> Outcome {
-    outcome_of(Answer::Accepted, regions::empty(cube_layout(rest)))
+// The table with a layout put in by hand.
+fn with_layout(n: [u64; 16], table: RegionTable) -> RegionTable {
+    let mut t = table;
+    t.layout = cube_layout(n);
+    t
+}
+
+// `desk`, `hand slot`, `hand layout`: the table after each, which nothing refuses; any other leaves it.
+fn made(command: u32, n: [u64; 16], table: RegionTable) -> RegionTable {
+    match command {
+        29 => regions::empty(cube_layout(n)),
+        31 => with_slot(n, table),
+        32 => with_layout(n, table),
+        _ => table,
+    }
 }
 
 // `place`: numbers 0 to 4, `slot w0 h0 w h`.
-fn place(rest: &[u8], table: RegionTable) -> Outcome {
-    let rectangle = Rectangle {
-        column: number_at(rest, 1),
-        row: number_at(rest, 2),
-        columns: number_at(rest, 3),
-        rows: number_at(rest, 4),
-    };
-    regions::place(table, number_at(rest, 0), rectangle)
+fn place(n: [u64; 16], table: RegionTable) -> Outcome {
+    regions::place(
+        table,
+        natural(n, 0),
+        natural(n, 1),
+        natural(n, 2),
+        natural(n, 3),
+        natural(n, 4),
+    )
 }
 
-// The call that a command names.
-fn call(
-    command: Command,
-    rest: &[u8],
+// The call that a command from 21 to 33 names.
+pub fn call(
+    command: u32,
+    n: [u64; 16],
     table: RegionTable,
     elements: &mut [i16],
     buffer: &mut [u8],
 ) -> Outcome {
     match command {
-        Command::Desk => desk(rest),
-        Command::Place => place(rest, table),
-        Command::Edit => {
-            regions::edit(
-                table,
-                number_at(rest, 0),
-                region_box(rest),
-                elements,
-                buffer,
-            )
-        }
-        Command::Look => {
-            regions::read(
-                table,
-                number_at(rest, 0),
-                region_box(rest),
-                buffer,
-                elements,
-            )
-        }
-        _ => outcome_of(call_packing(command, rest, elements, buffer), table),
+        24 => regions::edit(table, natural(n, 0), box_at(n, 1), elements, buffer),
+        28 => regions::read(table, natural(n, 0), box_at(n, 1), buffer, elements),
+        30 => place(n, table),
+        29 | 31..=32 => Outcome {
+            answer: Answer::Accepted,
+            table: made(command, n, table),
+        },
+        _ => Outcome {
+            answer: answered(command, n, elements, buffer),
+            table: table,
+        },
     }
 }
 
-// Prints what a call can have changed: the buffer, the elements, or neither.
-fn print_left(command: Command, elements: &[i16], buffer: &[u8]) {
+// Line number, code, fault index and value of a position or an extent.
+fn print_quantity(line: u64, q: Quantity) {
+    match q {
+        Quantity::Is(value) => {
+            print_answer(line, Answer::Accepted);
+            print_natural(value);
+        }
+        Quantity::Denied(r, at) => {
+            print_answer(line, Answer::Refused(r, at));
+            print_natural(0);
+        }
+    }
+}
+
+// Line number, code, fault index and value of a converted number.
+fn print_quantized(line: u64, q: Quantized) {
+    match q {
+        Quantized::Value(value) => {
+            print_answer(line, Answer::Accepted);
+            print_signed(of_short(value));
+        }
+        Quantized::Denied(r, at) => {
+            print_answer(line, Answer::Refused(r, at));
+            print_natural(0);
+        }
+    }
+}
+
+// `convert`: numbers `d offset SF shift precision`.
+fn convert(n: [u64; 16]) -> Quantized {
+    quantize::convert(
+        signed(n, 0),
+        short(n, 1),
+        short(n, 2),
+        natural(n, 3),
+        natural(n, 4),
+    )
+}
+
+// The answer of a command from 34 to 39, with its value: positions, extent, conversion, curve entries.
+pub fn print_value(line: u64, command: u32, n: [u64; 16]) {
     match command {
-        Command::Pack | Command::Write | Command::PackWeights | Command::Edit => {
-            print_bytes(buffer)
-        }
-        Command::Unpack | Command::Read | Command::UnpackWeights | Command::Look => {
-            print_elements(elements)
-        }
-        _ => {}
+        34 => print_quantity(
+            line,
+            cube::position(cube_layout(n), natural(n, 7), natural(n, 8), natural(n, 9)),
+        ),
+        35 => print_quantity(line, layout::extent(cube_layout(n))),
+        36 => print_quantity(
+            line,
+            pixels::position(pixel_setting(n), natural(n, 8), natural(n, 9)),
+        ),
+        37 => print_quantized(line, convert(n)),
+        38 => print_quantized(line, Quantized::Value(camera::x_entry(natural(n, 0)))),
+        _ => print_quantized(line, Quantized::Value(camera::y_entry(natural(n, 0)))),
     }
-}
-
-// Makes a call, prints its answer and what it left, and answers the table left.
-pub fn run(
-    command: Command,
-    rest: &[u8],
-    table: RegionTable,
-    elements: &mut [i16],
-    buffer: &mut [u8],
-) -> RegionTable {
-    let outcome = call(command, rest, table, elements, buffer);
-    let answer = outcome.answer;
-    print_answer(answer);
-    print_left(command, elements, buffer);
-    outcome.table
+    end_line();
 }

@@ -1,90 +1,108 @@
-// The commands, and how many numbers the calls among them take.
-use crate::words::same;
+// The commands: their names, the words that each takes, what each needs and what it sets (docs/TESTING.md says what they do).
 
-pub enum Command {
-    Elements,
-    Cells,
-    Buffer,
-    Fill,
-    Show,
-    Pack,
-    Unpack,
-    Write,
-    Read,
-    PackWeights,
-    UnpackWeights,
-    Desk,
-    Place,
-    Edit,
-    Look,
-    Unknown,
+// A row a command, which is known by its row's number, counted from 0: its name, a colon, and a letter for each word after the name.
+//     n  a natural number, at most 4294967295     s  a signed number of 32 bits
+//     e  an element, a signed number of 16 bits   b  a byte, two hexadecimal digits
+//     E, B, S  any number of elements, bytes, samples (signed numbers of 32 bits)
+const TABLE: [u8; 701] = *b"elements:E\nbuffer:B\nsamples:S\ncells:ne\nfill:nb\n\
+draw elements:nnens\ndraw buffer:nn\ndraw samples:nnsn\nmore elements:nnens\nmore buffer:nn\nmore samples:nnsn\ndraw curves:n\n\
+set element:ne\nprint all:\nprint sums:\n\
+show elements:\nshow buffer:\nshow samples:\nsum elements:\nsum buffer:\nsum samples:\n\
+pack:nnnnnnn\nwrite:nnnnnnnnnnnnn\npack_weights:nnnnn\nedit:nnnnnnn\n\
+unpack:nnnnnnn\nread:nnnnnnnnnnnnn\nunpack_weights:nnnnn\nlook:nnnnnnn\n\
+desk:nnnnnnn\nplace:nnnnn\nhand slot:nnnnnn\nhand layout:nnnnnnn\n\
+pixel setting:nnnnnnnn\n\
+position:nnnnnnnnnn\nextent:nnnnnnn\npixel position:nnnnnnnnnn\nconvert:seenn\ncurve x:n\ncurve y:n\n\
+x linear:ssseses\nx exponential:ssseses\ny:ssseses\nbits:nnn\ncounters:nnnnn\nready:snnn\nlookup:nnn\nsheet:\n";
+
+// The row of no command.
+pub const UNKNOWN: u32 = 255;
+
+// A command, and the index in the table of the letter of its first word.
+pub struct Found {
+    pub command: u32,
+    pub kinds: usize,
 }
 
-// A command on the contents that are lent.
-fn lending(word: &[u8]) -> Command {
-    if same(word, b"elements") {
-        return Command::Elements;
-    }
-    if same(word, b"cells") {
-        return Command::Cells;
-    }
-    if same(word, b"buffer") {
-        return Command::Buffer;
-    }
-    if same(word, b"fill") {
-        return Command::Fill;
-    }
-    if same(word, b"show") {
-        return Command::Show;
-    }
-    Command::Unknown
+// A byte of the table; from its end on, a newline.
+pub fn table_byte(i: usize) -> u8 {
+    if i < 701 { TABLE[i] } else { b'\n' }
 }
 
-// A call on a region table.
-fn region_call(word: &[u8]) -> Command {
-    if same(word, b"desk") {
-        return Command::Desk;
+// How many letters of a row are those of the name, after the letter c; 25 once the row has another name.
+fn matched_after(matched: usize, c: u8, name: [u8; 24]) -> usize {
+    if c == b'\n' {
+        return 0;
     }
-    if same(word, b"place") {
-        return Command::Place;
+    if matched < 24 {
+        if name[matched] == c {
+            return matched + 1;
+        }
     }
-    if same(word, b"edit") {
-        return Command::Edit;
-    }
-    if same(word, b"look") {
-        return Command::Look;
-    }
-    lending(word)
+    25
 }
 
-// The command that a word names.
-pub fn command_of(word: &[u8]) -> Command {
-    if same(word, b"pack") {
-        return Command::Pack;
+// The row's number after the letter c.
+fn row_after(row: u32, c: u8) -> u32 {
+    if c == b'\n' {
+        return std::num::wrapping_add_u32(row, 1);
     }
-    if same(word, b"unpack") {
-        return Command::Unpack;
-    }
-    if same(word, b"write") {
-        return Command::Write;
-    }
-    if same(word, b"read") {
-        return Command::Read;
-    }
-    if same(word, b"pack_weights") {
-        return Command::PackWeights;
-    }
-    if same(word, b"unpack_weights") {
-        return Command::UnpackWeights;
-    }
-    region_call(word)
+    row
 }
 
-// How many numbers a call takes; a command that is no call counts as a placing.
-pub fn numbers_taken(command: Command) -> u32 {
+// The command with the name of so many letters.
+pub fn find(name: [u8; 24], length: usize) -> Found {
+    let mut row = 0;
+    let mut matched = 0;
+    let mut i = 0;
+    while i < 701 {
+        let c = table_byte(i);
+        if c == b':' && matched == length {
+            return Found {
+                command: row,
+                kinds: i + 1,
+            };
+        }
+        row = row_after(row, c);
+        matched = matched_after(matched, c, name);
+        i += 1;
+    }
+    Found {
+        command: UNKNOWN,
+        kinds: 0,
+    }
+}
+
+// What a line can spoil, a bit each: 1 elements, 2 buffer, 4 samples, 8 region table, 16 X settings, 32 Y settings, 64 priority bits, 128 counters.
+
+// The bits of what a command sets; one that is not known may have set anything.
+pub fn sets(command: u32) -> u32 {
     match command {
-        Command::Pack | Command::Unpack | Command::Desk | Command::Edit | Command::Look => 7,
-        Command::Write | Command::Read => 13,
-        _ => 5,
+        0 | 3 | 5 | 8 | 11 | 12 | 25..=28 => 1,
+        1 | 4 | 6 | 9 | 21..=24 => 2,
+        2 | 7 | 10 => 4,
+        29..=32 => 8,
+        40..=41 => 16,
+        42 => 32,
+        43 => 64,
+        44 | 46 => 128,
+        45 => 112,
+        UNKNOWN => 255,
+        _ => 0,
+    }
+}
+
+// The bits of what a command looks at.
+pub fn uses(command: u32) -> u32 {
+    match command {
+        8 | 12 | 15 | 18 => 1,
+        9 | 16 | 19 | 47 => 2,
+        10 | 17 | 20 => 4,
+        21..=23 | 25..=27 => 3,
+        24 | 28 => 11,
+        30..=32 => 8,
+        45 => 112,
+        46 => 245,
+        _ => 0,
     }
 }

@@ -1,23 +1,56 @@
-// What is printed: answers, bytes and elements.
-use crate::numbers::number_of;
+// What is printed.
 use libc::STDOUT_FILENO;
 use refusal::Answer;
 
-fn end_line() {
+pub fn end_line() {
     io::write_all(STDOUT_FILENO, b"\n");
 }
 
-// The answer to a line that is not understood.
-pub fn print_unreadable() {
-    io::write_all(STDOUT_FILENO, b"unreadable\n");
+// The number of the line that is answered.
+pub fn print_line_number(line: u64) {
+    io::print_decimal(STDOUT_FILENO, line);
+    io::write_all(STDOUT_FILENO, b":");
 }
 
-// Refusal code and index at fault.
-pub fn print_answer(a: Answer) {
-    io::print_decimal(STDOUT_FILENO, refusal::answer_code(a) as u64);
+// The answer to a line that is not understood.
+pub fn print_unreadable(line: u64) {
+    print_line_number(line);
+    io::write_all(STDOUT_FILENO, b" unreadable\n");
+}
+
+// The answer to a call that is not made.
+pub fn print_not_made(line: u64) {
+    print_line_number(line);
+    io::write_all(STDOUT_FILENO, b" not made\n");
+}
+
+// A space and a natural number.
+pub fn print_natural(n: u64) {
     io::write_all(STDOUT_FILENO, b" ");
-    io::print_decimal(STDOUT_FILENO, refusal::answer_place(a) as u64);
-    end_line();
+    io::print_decimal(STDOUT_FILENO, n);
+}
+
+// A number that is lifted.
+fn print_lifted(v: u64) {
+    if v < 2147483648 {
+        io::write_all(STDOUT_FILENO, b"-");
+        io::print_decimal(STDOUT_FILENO, 2147483648 - v);
+    } else {
+        io::print_decimal(STDOUT_FILENO, v - 2147483648);
+    }
+}
+
+// A space and a number that is lifted.
+pub fn print_signed(v: u64) {
+    io::write_all(STDOUT_FILENO, b" ");
+    print_lifted(v);
+}
+
+// Line number, refusal code and fault index.
+pub fn print_answer(line: u64, a: Answer) {
+    print_line_number(line);
+    print_natural(refusal::answer_code(a) as u64);
+    print_natural(refusal::answer_place(a) as u64);
 }
 
 // What goes before number i: a line has 32 numbers, a space between.
@@ -32,46 +65,19 @@ fn print_gap(i: usize) {
     }
 }
 
-// Ends the last line of `count` numbers; of none there is no line.
-fn print_end(count: usize) {
+// Number i of a list, two hexadecimal digits for a byte.
+pub fn print_item(hexadecimal: bool, i: usize, v: u64) {
+    print_gap(i);
+    if hexadecimal {
+        io::print_hex(STDOUT_FILENO, v % 256, 2);
+    } else {
+        print_lifted(v);
+    }
+}
+
+// Ends the last line of so many numbers; of none there is no line.
+pub fn print_end(count: usize) {
     if count != 0 {
         end_line();
     }
-}
-
-// Two hexadecimal digits.
-fn print_byte(byte: u8) {
-    io::print_hex(STDOUT_FILENO, byte as u64, 2);
-}
-
-// Each byte in turn.
-pub fn print_bytes(bytes: &[u8]) {
-    let mut i = 0;
-    while i < bytes.len() {
-        print_gap(i);
-        print_byte(bytes[i]);
-        i += 1;
-    }
-    print_end(bytes.len());
-}
-
-// An element that is given by its number, in decimal digits with its sign.
-fn print_number(number: u32) {
-    if number < 32768 {
-        io::write_all(STDOUT_FILENO, b"-");
-        io::print_decimal(STDOUT_FILENO, (32768 - number) as u64);
-    } else {
-        io::print_decimal(STDOUT_FILENO, (number - 32768) as u64);
-    }
-}
-
-// Each element in turn.
-pub fn print_elements(elements: &[i16]) {
-    let mut i = 0;
-    while i < elements.len() {
-        print_gap(i);
-        print_number(number_of(elements[i]));
-        i += 1;
-    }
-    print_end(elements.len());
 }

@@ -1,88 +1,144 @@
-// The words of a line, one space between. What follows the first word is passed on as the line's rest: it is empty, or each of
-// its words has a space before it. Assumes nothing of the line.
-ghost use Prim.Native.Nat.{_≤_};
-ghost use lib.ListN.{length};
-use crate::numbers::Kind;
-use crate::numbers::Number;
-use crate::numbers::or_zero;
-use crate::numbers::value_of;
+// A word of a line, read byte by byte: a decimal number with a sign where negative, or hexadecimal digits; after either, `*` and how many times it stands.
 
-// The index of the first `mark` from `from` on, or the length.
-pub fn end_at(text: &[u8], from: usize, mark: u8) -> usize
-    requires { ⌜ from ≤ length (now text) ⌝ }
-    ensures { λ r. ⌜ from ≤ r ⌝ }
-    ensures { λ r. ⌜ r ≤ length (now (text .entry)) ⌝ }
-{
-    let mut i = from;
-    while i < text.len() && text[i] != mark {
-        i += 1;
-    }
-    i
+// What was read of a word: its sign, its number, how many digits it has; whether a `*` came, and the count after it.
+pub struct Word {
+    pub negative: bool,
+    pub value: u64,
+    pub digits: u32,
+    pub starred: bool,
+    pub times: u64,
 }
 
-// The end of the word that begins at `from`.
-pub fn word_end(line: &[u8], from: usize) -> usize
-    requires { ⌜ from ≤ length (now line) ⌝ }
-    ensures { λ r. ⌜ from ≤ r ⌝ }
-    ensures { λ r. ⌜ r ≤ length (now (line .entry)) ⌝ }
-{
-    end_at(line, from, b' ')
+// Beyond every number that a word can stand for.
+pub const BAD: u64 = 1099511627776;
+
+// A word before its first byte.
+pub fn no_word() -> Word {
+    Word {
+        negative: false,
+        value: 0,
+        digits: 0,
+        starred: false,
+        times: 0,
+    }
 }
 
-// Whether two words are the same.
-pub fn same(word: &[u8], other: &[u8]) -> bool {
-    if word.len() != other.len() {
-        return false;
+// The value of a digit; 16 for any other byte.
+fn digit_of(c: u8) -> u64 {
+    match c {
+        b'0'..=b'9' => (c - b'0') as u64,
+        b'a'..=b'f' => (c - b'a') as u64 + 10,
+        b'A'..=b'F' => (c - b'A') as u64 + 10,
+        _ => 16,
     }
-    let mut i = 0;
-    while i < word.len() && i < other.len() {
-        if word[i] != other[i] {
-            return false;
-        }
-        i += 1;
-    }
-    true
 }
 
-// How many words a rest has, if each is of the kind and there are at most 65536.
-pub fn count_of(rest: &[u8], kind: Kind) -> Number {
-    let mut n = 0;
-    let mut at = 0;
-    while at < rest.len() {
-        let start = at + 1;
-        let end = word_end(rest, start);
-        let Number::Is(_) = value_of(&rest[start..end], kind) else {
-            return Number::Unreadable;
+// A number with one digit more, or BAD.
+fn extended(value: u64, c: u8, hexadecimal: bool) -> u64 {
+    let d = digit_of(c);
+    if 8589934592 < value {
+        return BAD;
+    }
+    if d < 10 {
+        return if hexadecimal {
+            value * 16 + d
+        } else {
+            value * 10 + d
         };
-        if n == 65536 {
-            return Number::Unreadable;
-        }
-        n += 1;
-        at = end;
     }
-    Number::Is(n)
+    if d < 16 && hexadecimal {
+        return value * 16 + d;
+    }
+    BAD
 }
 
-// Whether a rest is so many numbers.
-pub fn has_numbers(rest: &[u8], count: u32) -> bool {
-    match count_of(rest, Kind::Natural) {
-        Number::Is(n) => n == count,
-        Number::Unreadable => false,
+// A word after a `*`.
+fn with_star(word: Word) -> Word {
+    let mut w = word;
+    if w.starred {
+        w.value = BAD;
+    }
+    w.starred = true;
+    w
+}
+
+// A word after a `-`.
+fn with_minus(word: Word) -> Word {
+    let mut w = word;
+    if w.negative || 0 < w.digits {
+        w.value = BAD;
+    }
+    w.negative = true;
+    w
+}
+
+// A word after a digit.
+fn with_digit(word: Word, c: u8, hexadecimal: bool) -> Word {
+    let mut w = word;
+    if w.starred {
+        w.times = extended(w.times, c, false);
+        return w;
+    }
+    w.value = extended(w.value, c, hexadecimal);
+    if w.digits < 3 {
+        w.digits = w.digits + 1;
+    }
+    w
+}
+
+// A word with one byte more, which is no space and no newline.
+pub fn with_byte(word: Word, c: u8, hexadecimal: bool) -> Word {
+    match c {
+        b'*' => with_star(word),
+        b'-' => with_minus(word),
+        _ => with_digit(word, c, hexadecimal),
     }
 }
 
-// Number k of a rest, counted from 0; it is 0 where there is none.
-pub fn number_at(rest: &[u8], k: usize) -> u32 {
-    let mut n = 0;
-    let mut at = 0;
-    while at < rest.len() {
-        let start = at + 1;
-        let end = word_end(rest, start);
-        if n == k {
-            return or_zero(value_of(&rest[start..end], Kind::Natural));
-        }
-        n += 1;
-        at = end;
+// The lifted number of a word, or BAD.
+fn lifted(w: Word) -> u64 {
+    let n = w.value;
+    if w.digits == 0 {
+        return BAD;
     }
-    0
+    if w.negative {
+        return if n <= 2147483648 { 2147483648 - n } else { BAD };
+    }
+    if n <= 4294967295 { n + 2147483648 } else { BAD }
+}
+
+// Whether a kind is that of bytes.
+pub fn is_byte(kind: u8) -> bool {
+    kind == b'b' || kind == b'B'
+}
+
+// Whether a lifted number is one of a kind.
+fn is_of(v: u64, kind: u8) -> bool {
+    match kind {
+        b'n' => 2147483648 <= v && v < BAD,
+        b's' | b'S' => v <= 4294967295,
+        b'e' | b'E' => 2147450880 <= v && v <= 2147516415,
+        _ => 2147483648 <= v && v <= 2147483903,
+    }
+}
+
+// The lifted number of a word of a kind, or BAD; a byte has two digits, and a sign is for signed numbers alone.
+pub fn value_of(w: Word, kind: u8) -> u64 {
+    let v = lifted(w);
+    let byte = is_byte(kind);
+    if byte && w.digits != 2 {
+        return BAD;
+    }
+    if w.negative && (byte || kind == b'n') {
+        return BAD;
+    }
+    if is_of(v, kind) { v } else { BAD }
+}
+
+// How many times a word stands, or BAD.
+pub fn times_of(w: Word) -> u64 {
+    if !w.starred {
+        return 1;
+    }
+    if w.times == 0 { BAD } else { w.times }
 }

@@ -1,4 +1,5 @@
--- `board::run_on` is safe and ends: each count is at most the length of the room of which a part is lent. Assumes nothing.
+-- `board::run_on` is safe and ends: each count is at most the length of the list of which a part is lent. Assumes nothing.
+use Prim.Native.Nat.{_-_}
 use mathlib.Core.Path.{sym}
 use native.Mathlib.Omega.{arith}
 use lib.Seq.{length-take-le}
@@ -12,6 +13,9 @@ held-requires c κs = search needs
 held-requires-2 : tie.Need-held-requires-2
 held-requires-2 c κs = search needs
 
+held-requires-3 : tie.Need-held-requires-3
+held-requires-3 c κs = search needs
+
 slice-relend-prefix-run-lent : tie.Need-slice-relend-prefix-run-lent
 slice-relend-prefix-run-lent c = search needs
 
@@ -24,6 +28,12 @@ slice-relend-prefix-run-lent-2 c = search needs
 slice-aggregate-run-lent-2 : tie.Need-slice-aggregate-run-lent-2
 slice-aggregate-run-lent-2 c = sym (length-take-le _ _ (omega arith))
 
+slice-relend-prefix-run-lent-3 : tie.Need-slice-relend-prefix-run-lent-3
+slice-relend-prefix-run-lent-3 c = search needs
+
+slice-aggregate-run-lent-3 : tie.Need-slice-aggregate-run-lent-3
+slice-aggregate-run-lent-3 c = sym (length-take-le _ _ (omega arith))
+
 run-lent-requires : tie.Need-run-lent-requires
 run-lent-requires c κs = search needs
 
@@ -32,6 +42,9 @@ same-length c = search needs
 
 same-length-2 : tie.Need-same-length-2
 same-length-2 c = search needs
+
+same-length-3 : tie.Need-same-length-3
+same-length-3 c = search needs
 
 returns : tie.Need-returns
 returns c = search needs
@@ -42,11 +55,15 @@ run-on-spec =
     (tie.spec
     held-requires
     held-requires-2
+    held-requires-3
     slice-relend-prefix-run-lent
     slice-aggregate-run-lent
     slice-relend-prefix-run-lent-2
     slice-aggregate-run-lent-2
+    slice-relend-prefix-run-lent-3
+    slice-aggregate-run-lent-3
     run-lent-requires
     same-length
     same-length-2
+    same-length-3
     returns)

@@ -1,0 +1,54 @@
+-- `board::lists::tell` is safe and ends: the index grows to the count. Assumes nothing.
+use Prim.Native.Nat.{_≤_, _-_}
+use borrow.Author.Needs.{needs}
+use Rattle.board.proofs.lists.tell.Statement.{statement}
+use Rattle.board.proofs.lists.tell.Tie as tie
+
+abbrev Inv-loop : tie.InvT-loop
+Inv-loop list count shown elements buffer samples sum₀ i₀ sum i = i ≤ count
+
+abbrev μ-loop : tie.MeasureT-loop
+μ-loop list count shown elements buffer samples sum₀ i₀ sum i = count - i
+
+loop-holds : tie.Need-loop-holds Inv-loop μ-loop
+loop-holds c = search needs
+
+at-requires : tie.Need-at-requires Inv-loop μ-loop
+at-requires c κs = search needs
+
+told-requires : tie.Need-told-requires Inv-loop μ-loop
+told-requires c κs = search needs
+
+add-i : tie.Need-add-i Inv-loop μ-loop
+add-i c = search needs
+
+loop-less : tie.Need-loop-less Inv-loop μ-loop
+loop-less c = search needs
+
+loop-again : tie.Need-loop-again Inv-loop μ-loop
+loop-again c = search needs
+
+print-end-requires : tie.Need-print-end-requires Inv-loop μ-loop
+print-end-requires c κs = search needs
+
+returns : tie.Need-returns Inv-loop μ-loop
+returns c = search needs
+
+returns-2 : tie.Need-returns-2 Inv-loop μ-loop
+returns-2 c = search needs
+
+pub tell-spec : {M : Type 1} → statement M
+tell-spec =
+    tie.close
+    (tie.spec
+    Inv-loop
+    μ-loop
+    loop-holds
+    at-requires
+    told-requires
+    add-i
+    loop-less
+    loop-again
+    print-end-requires
+    returns
+    returns-2)

@@ -1,0 +1,259 @@
+// The lookup: its settings from the numbers of a line, and its run. The elements that are lent are the entries of X and then those of Y.
+ghost use mathlib.Core.Path.{_≡_};
+ghost use Prim.Native.Nat.{_≤_};
+ghost use lib.ListN.{length};
+use crate::line::natural;
+use crate::line::short;
+use crate::line::signed;
+use crate::lists::Source;
+use crate::lists::draw;
+use crate::lists::tell;
+use crate::print::end_line;
+use crate::print::print_answer;
+use crate::print::print_natural;
+use crate::state::State;
+use camera::Choice;
+use camera::Ready;
+use lut::Counters;
+use lut::LutOutcome;
+use lut::LutSettings;
+use lut::Slope;
+use lut::Table;
+use lut::XMode;
+use lut::XSettings;
+use lut::YSettings;
+use refusal::Answer;
+use std::num::wrapping_add_usize;
+
+// The slope of number k and the next, `scale shift`.
+fn slope_at(n: [u64; 16], k: usize) -> Slope {
+    Slope {
+        scale: short(n, k),
+        shift: signed(n, wrapping_add_usize(k, 1)),
+    }
+}
+
+// The X table's settings: its mode, and numbers 1 to 6, `start end below_scale below_shift above_scale above_shift`.
+fn x_settings(n: [u64; 16], mode: XMode) -> XSettings {
+    XSettings {
+        mode: mode,
+        start: signed(n, 1),
+        end: signed(n, 2),
+        below: slope_at(n, 3),
+        above: slope_at(n, 5),
+    }
+}
+
+// The Y table's settings: the select, then as X's.
+fn y_settings(n: [u64; 16]) -> YSettings {
+    YSettings {
+        select: signed(n, 0),
+        start: signed(n, 1),
+        end: signed(n, 2),
+        below: slope_at(n, 3),
+        above: slope_at(n, 5),
+    }
+}
+
+// The table of number k: 0 is X, any other Y.
+fn table_at(n: [u64; 16], k: usize) -> Table {
+    if natural(n, k) == 0 {
+        Table::X
+    } else {
+        Table::Y
+    }
+}
+
+// The choice of number k: 0 names X, 1 names Y, any other none.
+fn choice_at(n: [u64; 16], k: usize) -> Choice {
+    match natural(n, k) {
+        0 => Choice::Named(Table::X),
+        1 => Choice::Named(Table::Y),
+        _ => Choice::Unnamed,
+    }
+}
+
+// The settings with the bits of numbers 0 to 2, `priority overflow underflow`.
+fn with_bits(n: [u64; 16], s: LutSettings) -> LutSettings {
+    let x = s.x;
+    let y = s.y;
+    LutSettings {
+        x,
+        y,
+        priority: table_at(n, 0),
+        overflow: table_at(n, 1),
+        underflow: table_at(n, 2),
+    }
+}
+
+// `x linear`, `x exponential`, `y`, `bits`: the settings after each; any other leaves them.
+fn settings_after(command: u32, n: [u64; 16], before: LutSettings) -> LutSettings {
+    let mut s = before;
+    match command {
+        40 => s.x = x_settings(n, XMode::Linear(signed(n, 0))),
+        41 => s.x = x_settings(n, XMode::Exponential(signed(n, 0))),
+        42 => s.y = y_settings(n),
+        43 => s = with_bits(n, before),
+        _ => {}
+    }
+    s
+}
+
+// `counters x_only y_only underflow overflow priority`.
+fn counters_of(n: [u64; 16]) -> Counters {
+    Counters {
+        x: natural(n, 0),
+        y: natural(n, 1),
+        underflow: natural(n, 2),
+        overflow: natural(n, 3),
+        priority: natural(n, 4),
+    }
+}
+
+// `ready s priority overflow underflow`: prints the answer; a refused one leaves the settings.
+fn ready(line: u64, n: [u64; 16], before: LutSettings) -> LutSettings {
+    let made = camera::ready_made(
+        signed(n, 0),
+        choice_at(n, 1),
+        choice_at(n, 2),
+        choice_at(n, 3),
+    );
+    match made {
+        Ready::Setting(settings) => {
+            print_answer(line, Answer::Accepted);
+            end_line();
+            settings
+        }
+        Ready::Denied(r, at) => {
+            print_answer(line, Answer::Refused(r, at));
+            end_line();
+            before
+        }
+    }
+}
+
+// The state after a command from 40 to 45.
+pub fn set(line: u64, command: u32, n: [u64; 16], state: State) -> State {
+    let before = state.settings;
+    let mut s = state;
+    match command {
+        44 => s.counters = counters_of(n),
+        45 => s.settings = ready(line, n, before),
+        _ => s.settings = settings_after(command, n, before),
+    }
+    s
+}
+
+// The run over the entries, the first `split` X's.
+fn run_split(
+    settings: LutSettings,
+    counters: Counters,
+    split: usize,
+    entries: &[i16],
+    samples: &[i32],
+    outputs: &mut [i32],
+) -> LutOutcome
+    requires { ⌜ split ≤ length (now entries) ⌝ }
+{
+    lut::run(
+        settings,
+        &entries[..split],
+        &entries[split..],
+        samples,
+        outputs,
+        counters,
+    )
+}
+
+// The outputs before the run: drawn from a seed, of all numbers.
+fn any_from(seed: u32) -> Source {
+    Source {
+        curves: false,
+        state: seed,
+        base: 2147483648,
+        span: 0,
+        step: 0,
+    }
+}
+
+// The five counters.
+fn print_counters(c: Counters) {
+    print_natural(c.x as u64);
+    print_natural(c.y as u64);
+    print_natural(c.underflow as u64);
+    print_natural(c.overflow as u64);
+    print_natural(c.priority as u64);
+}
+
+// Prints answer and counters, and the outputs or their checksum.
+fn print_outcome(
+    line: u64,
+    outcome: LutOutcome,
+    sums: bool,
+    elements: &[i16],
+    buffer: &[u8],
+    outputs: &[i32],
+) {
+    let answer = outcome.answer;
+    let counters = outcome.counters;
+    print_answer(line, answer);
+    print_counters(counters);
+    if sums {
+        print_natural(tell(2, outputs.len(), false, elements, buffer, outputs));
+        end_line();
+    } else {
+        end_line();
+        tell(2, outputs.len(), true, elements, buffer, outputs);
+    }
+}
+
+// A run over so many outputs.
+fn run_over(
+    line: u64,
+    n: [u64; 16],
+    state: State,
+    elements: &mut [i16],
+    buffer: &mut [u8],
+    samples: &[i32],
+    outputs: &mut [i32],
+) -> State {
+    draw(
+        2,
+        0,
+        outputs.len(),
+        any_from(natural(n, 2)),
+        elements,
+        buffer,
+        outputs,
+    );
+    let settings = state.settings;
+    let before = state.counters;
+    let split = crate::held(natural(n, 0) as usize, elements.len());
+    let outcome = run_split(settings, before, split, elements, samples, outputs);
+    print_outcome(line, outcome, state.sums, elements, buffer, outputs);
+    let counters = outcome.counters;
+    let mut s = state;
+    s.counters = counters;
+    s
+}
+
+// Room for samples or outputs, all 0.
+pub fn zero_samples() -> [i32; 65536]
+    ensures { λ r. ⌜ 65536 ≡ length r ⌝ }
+{
+    [0; 65536]
+}
+
+// `lookup X M seed`: a run over M outputs, at most 65536; the first X entries are X's.
+pub fn run(
+    line: u64,
+    n: [u64; 16],
+    state: State,
+    elements: &mut [i16],
+    buffer: &mut [u8],
+    samples: &[i32],
+) -> State {
+    let m = crate::held(natural(n, 1) as usize, 65536);
+    let mut outputs = zero_samples();
+    run_over(line, n, state, elements, buffer, samples, &mut outputs[..m])
+}
