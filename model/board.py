@@ -230,10 +230,11 @@ class Board:
     # --- answers ---
 
     def left(self, answer, name):
-        """The lines of a call that may change a list: its answer, and the list or the checksums of elements and buffer."""
+        """The lines of a call that may change a list: its answer, and the list, or the checksums of the other and of the list."""
         code, index, self.lists[name] = answer
         if self.sums:
-            return [f"{code} {index} {checksum(self.lists['elements'])} {checksum(self.lists['buffer'])}"]
+            other = "elements" if name == "buffer" else "buffer"
+            return [f"{code} {index} {checksum(self.lists[other])} {checksum(self.lists[name])}"]
         return [f"{code} {index}"] + rows(name, self.lists[name])
 
     # --- cubes, weights, regions ---

@@ -1,9 +1,7 @@
-// A line, read byte by byte: its command's name, then the words. The members of a list are put into it as they come, so a line may have any length.
+// A line, read byte by byte: its command's name, then the words. The members of a list are not kept: they are put into it as they come (main.rt), so a line may have any length.
 use crate::commands::UNKNOWN;
 use crate::commands::find;
 use crate::commands::table_byte;
-use crate::lists::always;
-use crate::lists::draw;
 use crate::lists::room;
 use crate::words::BAD;
 use crate::words::Word;
@@ -34,8 +32,10 @@ pub struct Line {
     // what the words say, lifted, and how many are read
     pub numbers: [u64; 16],
     pub count: usize,
-    // how many members of a list are put
+    // how many members of a list are read, how many were before the last word, and the lifted number of that word
     pub members: usize,
+    pub before: usize,
+    pub value: u64,
     // whether a word could not be read
     pub damaged: bool,
 }
@@ -53,6 +53,8 @@ pub fn new_line(number: u64) -> Line {
         numbers: [2147483648; 16],
         count: 0,
         members: 0,
+        before: 0,
+        value: 0,
         damaged: false,
     }
 }
@@ -132,58 +134,43 @@ fn end_of(from: usize, times: u64, room: usize) -> usize {
 }
 
 // A line with members of a list more, if there is room.
-fn with_members(
-    line: Line,
-    list: u32,
-    v: u64,
-    elements: &mut [i16],
-    buffer: &mut [u8],
-    samples: &mut [i32],
-) -> Line {
+fn with_members(line: Line, list: u32, v: u64) -> Line {
     let w = line.word;
-    let from = line.members;
-    let end = end_of(from, times_of(w), room(list));
+    let end = end_of(line.members, times_of(w), room(list));
     if end == 0 || v == BAD {
         return damaged(line);
     }
-    draw(list, from, end, always(v), elements, buffer, samples);
     let mut l = line;
     l.word = no_word();
+    l.before = l.members;
     l.members = end;
+    l.value = v;
     l
 }
 
 // A line whose word ends here.
-fn with_word(line: Line, elements: &mut [i16], buffer: &mut [u8], samples: &mut [i32]) -> Line {
+fn with_word(line: Line) -> Line {
     let kind = table_byte(line.kinds);
     let word = line.word;
     let list = list_of(kind);
-    let v = if kind == b'\n' {
-        BAD
-    } else {
-        value_of(word, kind)
-    };
-    if list < 3 {
-        return with_members(line, list, v, elements, buffer, samples);
+    if kind == b'\n' {
+        return damaged(line);
     }
-    with_number(line, v)
+    if list < 3 {
+        return with_members(line, list, value_of(word, kind));
+    }
+    with_number(line, value_of(word, kind))
 }
 
 // A line with one byte more, a space or a part of a word.
-fn with_argument(
-    line: Line,
-    c: u8,
-    elements: &mut [i16],
-    buffer: &mut [u8],
-    samples: &mut [i32],
-) -> Line {
+fn with_argument(line: Line, c: u8) -> Line {
     if c == b' ' {
-        return with_word(line, elements, buffer, samples);
+        return with_word(line);
     }
     let mut l = line;
     let word = line.word;
-    let kind = table_byte(line.kinds);
-    l.word = crate::words::with_byte(word, c, is_byte(kind));
+    l.word = crate::words::with_byte(word, c, is_byte(table_byte(line.kinds)));
+    l.before = l.members;
     l
 }
 
@@ -198,25 +185,19 @@ fn with_first(line: Line, c: u8) -> Line {
 }
 
 // A line at its newline.
-fn with_end(line: Line, elements: &mut [i16], buffer: &mut [u8], samples: &mut [i32]) -> Line {
+fn with_end(line: Line) -> Line {
     let phase = line.phase;
     match phase {
         NAME => with_name(line),
-        WORDS => with_word(line, elements, buffer, samples),
+        WORDS => with_word(line),
         _ => line,
     }
 }
 
 // A line with one byte more.
-pub fn with_byte(
-    line: Line,
-    c: u8,
-    elements: &mut [i16],
-    buffer: &mut [u8],
-    samples: &mut [i32],
-) -> Line {
+pub fn with_byte(line: Line, c: u8) -> Line {
     if c == b'\n' {
-        return with_end(line, elements, buffer, samples);
+        return with_end(line);
     }
     let phase = line.phase;
     match phase {
@@ -228,7 +209,7 @@ pub fn with_byte(
                 with_letter(line, c)
             }
         }
-        WORDS => with_argument(line, c, elements, buffer, samples),
+        WORDS => with_argument(line, c),
         _ => line,
     }
 }

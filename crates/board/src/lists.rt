@@ -4,8 +4,10 @@ use crate::numbers::of_short;
 use crate::numbers::of_signed;
 use crate::numbers::short;
 use crate::numbers::signed;
+use crate::print::end_line;
 use crate::print::print_end;
 use crate::print::print_item;
+use crate::print::print_natural;
 
 // Where members come from: the camera curves, or numbers drawn from a state, each base + draw mod span, the base growing by step; a span of 0 is all 2^32.
 pub struct Source {
@@ -159,23 +161,41 @@ fn told(sum: u64, list: u32, i: usize, v: u64, shown: bool) -> u64 {
     (sum % 4294967296 * 65599 + v % 4294967296 + 1) % 4294967296
 }
 
-// The checksum of the first `count` members of a list, which are printed if `shown`.
-pub fn tell(
-    list: u32,
-    count: usize,
-    shown: bool,
-    elements: &[i16],
-    buffer: &[u8],
-    samples: &[i32],
-) -> u64 {
+// How many members a list has.
+fn count_of(list: u32, elements: &[i16], buffer: &[u8], samples: &[i32]) -> usize {
+    match list {
+        0 => elements.len(),
+        1 => buffer.len(),
+        _ => samples.len(),
+    }
+}
+
+// The checksum of a list, which is printed if `shown`.
+pub fn tell(list: u32, shown: bool, elements: &[i16], buffer: &[u8], samples: &[i32]) -> u64 {
+    let count = count_of(list, elements, buffer, samples);
     let mut sum = 0;
     let mut i = 0;
     while i < count {
-        sum = told(sum, list, i, at(list, i, elements, buffer, samples), shown);
+        let v = at(list, i, elements, buffer, samples);
+        sum = told(sum, list, i, v, shown);
         i += 1;
     }
     if shown {
         print_end(count);
     }
     sum
+}
+
+// Ends the answer of a call that may have changed a list: prints the list, or checksums, that of the elements or the buffer with the other's before it.
+pub fn tell_left(list: u32, sums: bool, elements: &[i16], buffer: &[u8], samples: &[i32]) {
+    if !sums {
+        end_line();
+        tell(list, true, elements, buffer, samples);
+        return;
+    }
+    if list < 2 {
+        print_natural(tell(1 - list, false, elements, buffer, samples));
+    }
+    print_natural(tell(list, false, elements, buffer, samples));
+    end_line();
 }

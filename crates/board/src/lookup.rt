@@ -7,7 +7,7 @@ use crate::line::short;
 use crate::line::signed;
 use crate::lists::Source;
 use crate::lists::draw;
-use crate::lists::tell;
+use crate::lists::tell_left;
 use crate::print::end_line;
 use crate::print::print_answer;
 use crate::print::print_natural;
@@ -133,12 +133,15 @@ fn ready(line: u64, n: [u64; 16], before: LutSettings) -> LutSettings {
 }
 
 // The state after a command from 40 to 45.
-pub fn set(line: u64, command: u32, n: [u64; 16], state: State) -> State {
+pub fn set(state: State) -> State {
+    let line = state.line;
+    let n = line.numbers;
+    let command = line.command;
     let before = state.settings;
     let mut s = state;
     match command {
         44 => s.counters = counters_of(n),
-        45 => s.settings = ready(line, n, before),
+        45 => s.settings = ready(line.number, n, before),
         _ => s.settings = settings_after(command, n, before),
     }
     s
@@ -185,38 +188,16 @@ fn print_counters(c: Counters) {
     print_natural(c.priority as u64);
 }
 
-// Prints answer and counters, and the outputs or their checksum.
-fn print_outcome(
-    line: u64,
-    outcome: LutOutcome,
-    sums: bool,
-    elements: &[i16],
-    buffer: &[u8],
-    outputs: &[i32],
-) {
-    let answer = outcome.answer;
-    let counters = outcome.counters;
-    print_answer(line, answer);
-    print_counters(counters);
-    if sums {
-        print_natural(tell(2, outputs.len(), false, elements, buffer, outputs));
-        end_line();
-    } else {
-        end_line();
-        tell(2, outputs.len(), true, elements, buffer, outputs);
-    }
-}
-
-// A run over so many outputs.
+// A run over the outputs, which are drawn before it; `of` has the samples.
 fn run_over(
-    line: u64,
-    n: [u64; 16],
     state: State,
     elements: &mut [i16],
     buffer: &mut [u8],
-    samples: &[i32],
+    of: &[i32],
     outputs: &mut [i32],
 ) -> State {
+    let line = state.line;
+    let n = line.numbers;
     draw(
         2,
         0,
@@ -229,9 +210,12 @@ fn run_over(
     let settings = state.settings;
     let before = state.counters;
     let split = crate::held(natural(n, 0) as usize, elements.len());
-    let outcome = run_split(settings, before, split, elements, samples, outputs);
-    print_outcome(line, outcome, state.sums, elements, buffer, outputs);
+    let outcome = run_split(settings, before, split, elements, of, outputs);
+    let answer = outcome.answer;
     let counters = outcome.counters;
+    print_answer(line.number, answer);
+    print_counters(counters);
+    tell_left(2, state.sums, elements, buffer, outputs);
     let mut s = state;
     s.counters = counters;
     s
@@ -245,15 +229,10 @@ pub fn zero_samples() -> [i32; 65536]
 }
 
 // `lookup X M seed`: a run over M outputs, at most 65536; the first X entries are X's.
-pub fn run(
-    line: u64,
-    n: [u64; 16],
-    state: State,
-    elements: &mut [i16],
-    buffer: &mut [u8],
-    samples: &[i32],
-) -> State {
+pub fn run(state: State, elements: &mut [i16], buffer: &mut [u8], samples: &[i32]) -> State {
+    let line = state.line;
+    let n = line.numbers;
     let m = crate::held(natural(n, 1) as usize, 65536);
     let mut outputs = zero_samples();
-    run_over(line, n, state, elements, buffer, samples, &mut outputs[..m])
+    run_over(state, elements, buffer, samples, &mut outputs[..m])
 }

@@ -19,6 +19,8 @@ use line::Line;
 use line::natural;
 use lists::Source;
 use state::State;
+use std::num::wrapping_add_u64;
+use std::num::wrapping_add_usize;
 
 // A count, at most `most`.
 fn held(n: usize, most: usize) -> usize
@@ -36,6 +38,11 @@ fn list_of(command: u32) -> u32 {
     }
 }
 
+// The list that a call from 21 to 28 may change: the buffer, or from 25 on the elements.
+fn changed(command: u32) -> u32 {
+    if command < 25 { 1 } else { 0 }
+}
+
 // The index at which a drawing line begins: behind what is lent for `more`, else 0.
 fn drawn_from(command: u32, state: State) -> usize {
     match command {
@@ -45,10 +52,11 @@ fn drawn_from(command: u32, state: State) -> usize {
 }
 
 // Whether the counts and the index of a line are within their limits.
-fn is_within(line: Line, state: State) -> bool {
+fn is_within(state: State) -> bool {
+    let line = state.line;
     let numbers = line.numbers;
-    let n = natural(numbers, 0) as usize;
     let command = line.command;
+    let n = natural(numbers, 0) as usize;
     let most = lists::room(list_of(command));
     match command {
         3..=11 => n <= most && drawn_from(command, state) <= most - n,
@@ -74,135 +82,83 @@ fn source_of(command: u32, numbers: [u64; 16]) -> Source {
 }
 
 // A line that lends a list, or more of one.
-fn lend(
-    line: Line,
-    state: State,
-    elements: &mut [i16],
-    buffer: &mut [u8],
-    samples: &mut [i32],
-) -> State {
-    let command = line.command;
+fn lend(state: State, elements: &mut [i16], buffer: &mut [u8], samples: &mut [i32]) -> State {
+    let line = state.line;
     let numbers = line.numbers;
+    let command = line.command;
     let list = list_of(command);
     if command < 3 {
         return state::with_count(state, list, line.members);
     }
     let from = drawn_from(command, state);
-    let end = std::num::wrapping_add_usize(from, natural(numbers, 0) as usize);
-    lists::draw(
-        list,
-        from,
-        end,
-        source_of(command, numbers),
-        elements,
-        buffer,
-        samples,
-    );
+    let end = wrapping_add_usize(from, natural(numbers, 0) as usize);
+    let source = source_of(command, numbers);
+    lists::draw(list, from, end, source, elements, buffer, samples);
     state::with_count(state, list, end)
 }
 
 // `show`, `sum`: a list, or its checksum.
 fn show(line: Line, elements: &[i16], buffer: &[u8], samples: &[i32]) {
     let list = list_of(line.command);
-    let count = match list {
-        0 => elements.len(),
-        1 => buffer.len(),
-        _ => samples.len(),
-    };
     if line.command < 18 {
-        lists::tell(list, count, true, elements, buffer, samples);
+        lists::tell(list, true, elements, buffer, samples);
     } else {
         print::print_line_number(line.number);
-        print::print_natural(lists::tell(list, count, false, elements, buffer, samples));
+        print::print_natural(lists::tell(list, false, elements, buffer, samples));
         print::end_line();
     }
 }
 
-// Prints what a call can have changed, the elements or the buffer, or the checksums of both.
-fn print_left(command: u32, sums: bool, elements: &[i16], buffer: &[u8], samples: &[i32]) {
-    if 28 < command {
-        print::end_line();
-        return;
-    }
-    if sums {
-        print::print_natural(lists::tell(0, elements.len(), false, elements, buffer, samples));
-        print::print_natural(lists::tell(1, buffer.len(), false, elements, buffer, samples));
-        print::end_line();
-        return;
-    }
-    print::end_line();
-    if command < 25 {
-        lists::tell(1, buffer.len(), true, elements, buffer, samples);
-    } else {
-        lists::tell(0, elements.len(), true, elements, buffer, samples);
-    }
-}
-
-// A call on a cube, on weights or on the region table.
-fn call(
-    line: Line,
-    state: State,
-    elements: &mut [i16],
-    buffer: &mut [u8],
-    samples: &[i32],
-) -> State {
+// A call on a cube, on weights or on the region table; prints its answer and what it left.
+fn call(state: State, elements: &mut [i16], buffer: &mut [u8], samples: &[i32]) -> State {
+    let line = state.line;
     let numbers = line.numbers;
+    let command = line.command;
     let before = state.table;
-    let outcome = calls::call(line.command, numbers, before, elements, buffer);
+    let outcome = calls::call(command, numbers, before, elements, buffer);
     let answer = outcome.answer;
-    print::print_answer(line.number, answer);
-    print_left(line.command, state.sums, elements, buffer, samples);
     let table = outcome.table;
     let mut s = state;
     s.table = table;
+    print::print_answer(line.number, answer);
+    if 28 < command {
+        print::end_line();
+        return s;
+    }
+    lists::tell_left(changed(command), s.sums, elements, buffer, samples);
     s
 }
 
 // A command on what is lent.
-fn run_lent(
-    line: Line,
-    state: State,
-    elements: &mut [i16],
-    buffer: &mut [u8],
-    samples: &mut [i32],
-) -> State {
+fn run_lent(state: State, elements: &mut [i16], buffer: &mut [u8], samples: &mut [i32]) -> State {
+    let line = state.line;
     let numbers = line.numbers;
     let command = line.command;
-    let mut s = state;
     match command {
-        12 => lists::put(
-            0,
-            natural(numbers, 0) as usize,
-            numbers[1],
-            elements,
-            buffer,
-            samples,
-        ),
-        13 => s.sums = false,
-        14 => s.sums = true,
-        15..=20 => show(line, elements, buffer, samples),
-        21..=33 => s = call(line, state, elements, buffer, samples),
-        34..=39 => calls::print_value(line.number, line.command, numbers),
-        40..=45 => s = lookup::set(line.number, line.command, numbers, state),
-        46 => s = lookup::run(line.number, numbers, state, elements, buffer, samples),
-        _ => sheet::run(line.number, buffer),
+        12 => {
+            let i = natural(numbers, 0) as usize;
+            lists::put(0, i, numbers[1], elements, buffer, samples);
+            state
+        }
+        15..=20 => {
+            show(line, elements, buffer, samples);
+            state
+        }
+        46 => lookup::run(state, elements, buffer, samples),
+        47 => {
+            sheet::run(line.number, buffer);
+            state
+        }
+        _ => call(state, elements, buffer, samples),
     }
-    s
 }
 
 // A command on the parts of the lists that are lent.
-fn run_on(
-    line: Line,
-    state: State,
-    elements: &mut [i16],
-    buffer: &mut [u8],
-    samples: &mut [i32],
-) -> State {
+fn run_on(state: State, elements: &mut [i16], buffer: &mut [u8], samples: &mut [i32]) -> State {
     let n = held(state.elements, elements.len());
     let m = held(state.buffer, buffer.len());
     let k = held(state.samples, samples.len());
     run_lent(
-        line,
         state,
         &mut elements[..n],
         &mut buffer[..m],
@@ -210,108 +166,140 @@ fn run_on(
     )
 }
 
-// The state after a line that is made: what it set is no longer spoilt.
-fn mended_by(command: u32, state: State) -> State {
+// A command that looks at no list: how to print, a value, a setting of the lookup.
+fn run_apart(state: State) -> State {
+    let line = state.line;
+    let numbers = line.numbers;
+    let command = line.command;
     let mut s = state;
-    s.spoilt = s.spoilt & (255 ^ commands::sets(command));
+    match command {
+        13 => s.sums = false,
+        14 => s.sums = true,
+        34..=39 => calls::print_value(line.number, command, numbers),
+        _ => s = lookup::set(state),
+    }
     s
 }
 
-// A command of any kind that can be made.
-fn run_made(
-    line: Line,
-    state: State,
-    elements: &mut [i16],
-    buffer: &mut [u8],
-    samples: &mut [i32],
-) -> State {
-    if line.command < 12 {
-        return mended_by(line.command, lend(line, state, elements, buffer, samples));
+// Whether a command looks at no list.
+fn is_apart(command: u32) -> bool {
+    match command {
+        13..=14 | 34..=45 => true,
+        _ => false,
     }
-    mended_by(line.command, run_on(line, state, elements, buffer, samples))
+}
+
+// A command that can be made.
+fn run_made(state: State, elements: &mut [i16], buffer: &mut [u8], samples: &mut [i32]) -> State {
+    let line = state.line;
+    if line.command < 12 {
+        return lend(state, elements, buffer, samples);
+    }
+    if is_apart(line.command) {
+        return run_apart(state);
+    }
+    run_on(state, elements, buffer, samples)
+}
+
+// The state after a line that is made: what it set is no longer spoilt.
+fn mended(state: State) -> State {
+    let line = state.line;
+    let mut s = state;
+    s.spoilt = s.spoilt & (255 ^ commands::sets(line.command));
+    s
 }
 
 // The state after a line that is not made: what it would have set is spoilt.
-fn spoilt_by(line: Line, state: State) -> State {
+fn spoiled(state: State) -> State {
+    let line = state.line;
     let mut s = state;
     s.spoilt = s.spoilt | commands::sets(line.command);
     s
 }
 
+// Whether a line is empty or a comment.
+fn is_silent(line: Line) -> bool {
+    line.phase == line::BEGINNING || line.phase == line::COMMENT
+}
+
 // A line that ended.
-fn run_line(
-    line: Line,
-    state: State,
-    elements: &mut [i16],
-    buffer: &mut [u8],
-    samples: &mut [i32],
-) -> State {
-    if line.phase == line::BEGINNING || line.phase == line::COMMENT {
+fn run_line(state: State, elements: &mut [i16], buffer: &mut [u8], samples: &mut [i32]) -> State {
+    let line = state.line;
+    if is_silent(line) {
         return state;
     }
-    if line::is_whole(line) && state.spoilt & commands::uses(line.command) != 0 {
-        print::print_not_made(line.number);
-        return spoilt_by(line, state);
-    }
-    if !line::is_whole(line) || !is_within(line, state) {
+    if !line::is_whole(line) {
         print::print_unreadable(line.number);
-        return spoilt_by(line, state);
+        return spoiled(state);
     }
-    run_made(line, state, elements, buffer, samples)
+    if state.spoilt & commands::uses(line.command) != 0 {
+        print::print_not_made(line.number);
+        return spoiled(state);
+    }
+    if !is_within(state) {
+        print::print_unreadable(line.number);
+        return spoiled(state);
+    }
+    mended(run_made(state, elements, buffer, samples))
 }
 
-// What goes from a part of the input to the next: the line under way, and what the lines before it left.
-struct World {
-    line: Line,
-    state: State,
+// The state at the beginning of the next line.
+fn next_line(state: State) -> State {
+    let line = state.line;
+    let mut s = state;
+    s.line = line::new_line(wrapping_add_u64(line.number, 1));
+    s
 }
 
-// Before the first part.
-fn first_world() -> World {
-    World {
-        line: line::new_line(1),
-        state: state::first_state(),
-    }
+// Puts the members of a list that the last word of a line stands for.
+fn put_members(line: Line, elements: &mut [i16], buffer: &mut [u8], samples: &mut [i32]) {
+    let list = list_of(line.command);
+    let source = lists::always(line.value);
+    lists::draw(
+        list,
+        line.before,
+        line.members,
+        source,
+        elements,
+        buffer,
+        samples,
+    );
 }
 
 // Reads a byte; a line runs at its newline.
 fn run_byte(
     c: u8,
-    before: World,
+    state: State,
     elements: &mut [i16],
     buffer: &mut [u8],
     samples: &mut [i32],
-) -> World {
-    let begun = before.line;
-    let state = before.state;
-    let line = line::with_byte(begun, c, elements, buffer, samples);
+) -> State {
+    let begun = state.line;
+    let line = line::with_byte(begun, c);
+    put_members(line, elements, buffer, samples);
+    let mut s = state;
+    s.line = line;
     if c == b'\n' {
-        return World {
-            state: run_line(line, state, elements, buffer, samples),
-            line: line::new_line(std::num::wrapping_add_u64(line.number, 1)),
-        };
+        return next_line(run_line(s, elements, buffer, samples));
     }
-    World {
-        line: line,
-        state: state,
-    }
+    s
 }
 
 // Reads a part of the input.
 fn run_part(
     part: &[u8],
-    before: World,
+    before: State,
     elements: &mut [i16],
     buffer: &mut [u8],
     samples: &mut [i32],
-) -> World {
-    let mut world = before;
+) -> State {
+    let mut state = before;
     let mut i = 0;
     while i < part.len() {
-        world = run_byte(part[i], world, elements, buffer, samples);
+        state = run_byte(part[i], state, elements, buffer, samples);
         i += 1;
     }
-    world
+    state
 }
 
 // Room for the elements, all 0.
@@ -331,17 +319,17 @@ fn zero_buffer() -> [u8; 2457600]
 // Reads the input part by part, and then its end: the last line may lack its newline. The count of parts only bounds the loop: 2^64 of them are never read.
 fn run_all(elements: &mut [i16], buffer: &mut [u8], samples: &mut [i32]) {
     let mut part = io::large_buffer();
-    let mut world = first_world();
+    let mut state = state::first_state();
     let mut left: u64 = 18446744073709551615;
     while 0 < left {
         let n = io::read_full(STDIN_FILENO, &mut part);
         if n == 0 {
             break;
         }
-        world = run_part(&part[..n], world, elements, buffer, samples);
+        state = run_part(&part[..n], state, elements, buffer, samples);
         left -= 1;
     }
-    run_part(b"\n", world, elements, buffer, samples);
+    run_part(b"\n", state, elements, buffer, samples);
 }
 
 fn main() {

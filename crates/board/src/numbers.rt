@@ -1,33 +1,22 @@
 // Numbers from -2147483648 to 4294967295. Each is held *lifted*: itself + 2147483648.
-ghost use mathlib.Core.Path.{_≡_};
-ghost use Prim.Native.Nat.{_%_};
-ghost use lib.IntN.{pos, _+ℤ_, _-ℤ_};
 
 // The 16-bit number that is n - 32768, n modulo 65536.
-fn less_short(n: u64) -> i16
-    ensures { λ r. ⌜ r ≡ pos (n % 65536) -ℤ pos 32768 ⌝ }
-{
+fn less_short(n: u64) -> i16 {
     ((n % 65536) as i32 - 32768) as i16
 }
 
 // A 16-bit number + 32768.
-fn raised_short(z: i16) -> u32
-    ensures { λ r. ⌜ pos r ≡ z +ℤ pos 32768 ⌝ }
-{
+fn raised_short(z: i16) -> u32 {
     (z as i32 + 32768) as u32
 }
 
 // The 32-bit number of a lifted one, modulo 4294967296.
-pub fn signed(v: u64) -> i32
-    ensures { λ r. ⌜ r ≡ pos (v % 4294967296) -ℤ pos 2147483648 ⌝ }
-{
+pub fn signed(v: u64) -> i32 {
     ((v % 4294967296) as i64 - 2147483648) as i32
 }
 
 // A 32-bit number + 2147483648.
-fn raised_signed(z: i32) -> u32
-    ensures { λ r. ⌜ pos r ≡ z +ℤ pos 2147483648 ⌝ }
-{
+fn raised_signed(z: i32) -> u32 {
     (z as i64 + 2147483648) as u32
 }
 

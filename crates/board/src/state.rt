@@ -1,5 +1,7 @@
-// What goes from line to line beside the lists: how many members each lends, the region table, the lookup, how to print, and what is spoilt.
+// What goes from byte to byte beside the lists: the line under way, and what the lines before it left.
 use crate::calls::cube_layout;
+use crate::line::Line;
+use crate::line::new_line;
 use lut::Counters;
 use lut::LutSettings;
 use lut::Slope;
@@ -10,6 +12,7 @@ use lut::YSettings;
 use regions::RegionTable;
 
 pub struct State {
+    pub line: Line,
     // how many elements, bytes and samples are lent
     pub elements: usize,
     pub buffer: usize,
@@ -49,7 +52,7 @@ fn zero_settings() -> LutSettings {
     }
 }
 
-// The state before the first line: nothing is lent, and all numbers are 0.
+// The state before the first byte: nothing is lent, and all numbers are 0.
 pub fn first_state() -> State {
     let table = regions::empty(cube_layout([2147483648; 16]));
     let counters = Counters {
@@ -60,6 +63,7 @@ pub fn first_state() -> State {
         priority: 0,
     };
     State {
+        line: new_line(1),
         elements: 0,
         buffer: 0,
         samples: 0,

@@ -6,16 +6,16 @@ use Rattle.board.proofs.run_all.Statement.{statement}
 use Rattle.board.proofs.run_all.Tie as tie
 
 abbrev Inv-loop : tie.InvT-loop
-Inv-loop elements₀ buffer₀ samples₀ part₀ world₀ left₀ t8 elements buffer samples part world left = (65536 ≡ length part) × (length elements ≡ length elements₀) × (length buffer ≡ length buffer₀) × (length samples ≡ length samples₀)
+Inv-loop elements₀ buffer₀ samples₀ part₀ state₀ left₀ t8 elements buffer samples part state left = (65536 ≡ length part) × (length elements ≡ length elements₀) × (length buffer ≡ length buffer₀) × (length samples ≡ length samples₀)
 
 abbrev μ-loop : tie.MeasureT-loop
-μ-loop elements₀ buffer₀ samples₀ part₀ world₀ left₀ t8 elements buffer samples part world left = left
+μ-loop elements₀ buffer₀ samples₀ part₀ state₀ left₀ t8 elements buffer samples part state left = left
 
 large-buffer-requires : tie.Need-large-buffer-requires Inv-loop μ-loop
 large-buffer-requires c κs = search needs
 
-first-world-requires : tie.Need-first-world-requires Inv-loop μ-loop
-first-world-requires c κs = search needs
+first-state-requires : tie.Need-first-state-requires Inv-loop μ-loop
+first-state-requires c κs = search needs
 
 loop-holds : tie.Need-loop-holds Inv-loop μ-loop
 loop-holds c = search needs
@@ -69,7 +69,7 @@ run-all-spec =
     Inv-loop
     μ-loop
     large-buffer-requires
-    first-world-requires
+    first-state-requires
     loop-holds
     slice-aggregate-read-full
     read-full-requires

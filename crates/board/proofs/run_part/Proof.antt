@@ -7,10 +7,10 @@ use Rattle.board.proofs.run_part.Statement.{statement}
 use Rattle.board.proofs.run_part.Tie as tie
 
 abbrev Inv-loop : tie.InvT-loop
-Inv-loop part elements₀ buffer₀ samples₀ world₀ i₀ elements buffer samples world i = (i ≤ length part) × (length elements ≡ length elements₀) × (length buffer ≡ length buffer₀) × (length samples ≡ length samples₀)
+Inv-loop part elements₀ buffer₀ samples₀ state₀ i₀ elements buffer samples state i = (i ≤ length part) × (length elements ≡ length elements₀) × (length buffer ≡ length buffer₀) × (length samples ≡ length samples₀)
 
 abbrev μ-loop : tie.MeasureT-loop
-μ-loop part elements₀ buffer₀ samples₀ world₀ i₀ elements buffer samples world i = length part - i
+μ-loop part elements₀ buffer₀ samples₀ state₀ i₀ elements buffer samples state i = length part - i
 
 loop-holds : tie.Need-loop-holds Inv-loop μ-loop
 loop-holds c = search needs

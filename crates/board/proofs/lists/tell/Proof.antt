@@ -5,10 +5,13 @@ use Rattle.board.proofs.lists.tell.Statement.{statement}
 use Rattle.board.proofs.lists.tell.Tie as tie
 
 abbrev Inv-loop : tie.InvT-loop
-Inv-loop list count shown elements buffer samples sum₀ i₀ sum i = i ≤ count
+Inv-loop list shown elements buffer samples count sum₀ i₀ sum i = i ≤ count
 
 abbrev μ-loop : tie.MeasureT-loop
-μ-loop list count shown elements buffer samples sum₀ i₀ sum i = count - i
+μ-loop list shown elements buffer samples count sum₀ i₀ sum i = count - i
+
+count-of-requires : tie.Need-count-of-requires Inv-loop μ-loop
+count-of-requires c κs = search needs
 
 loop-holds : tie.Need-loop-holds Inv-loop μ-loop
 loop-holds c = search needs
@@ -43,6 +46,7 @@ tell-spec =
     (tie.spec
     Inv-loop
     μ-loop
+    count-of-requires
     loop-holds
     at-requires
     told-requires

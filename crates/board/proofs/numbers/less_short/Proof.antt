@@ -1,4 +1,4 @@
--- `board::numbers::less_short` meets its contract: a number below 65536, less 32768, is an i16. Assumes nothing.
+-- `board::numbers::less_short` is safe: a number below 65536, less 32768, is an i16. Assumes nothing.
 use Prim.Native.Nat.{ℕ, _%_}
 use native.Mathlib.Omega.{arith}
 use lib.IntN.{subℕ}
@@ -25,9 +25,7 @@ cast-result-2 c =
     rw (toZ-pos w32 {n = c .args .n % 65536} (omega arith), toZ-ofZ {w = w32} (sfits-widen tt f)) f
 
 returns : tie.Need-returns
-returns c =
-    let f = less-fits (c .args .n) in
-    rw (toZ-pos w32 {n = c .args .n % 65536} (omega arith), toZ-ofZ {w = w32} (sfits-widen tt f)) (toZ-ofZ f)
+returns c = search needs
 
 pub less-short-spec : {M : Type 1} → statement M
 less-short-spec = tie.close (tie.spec cast-result sub-result cast-result-2 returns)

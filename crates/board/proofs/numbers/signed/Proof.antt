@@ -1,4 +1,4 @@
--- `board::numbers::signed` meets its contract: a number below 4294967296, less 2147483648, is an i32. Assumes nothing.
+-- `board::numbers::signed` is safe: a number below 4294967296, less 2147483648, is an i32. Assumes nothing.
 use Prim.Native.Nat.{ℕ, _%_}
 use native.Mathlib.Omega.{arith}
 use lib.IntN.{subℕ}
@@ -25,9 +25,7 @@ cast-result-2 c =
     rw (toZ-pos w64 {n = c .args .v % 4294967296} (omega arith), toZ-ofZ {w = w64} (sfits-widen tt f)) f
 
 returns : tie.Need-returns
-returns c =
-    let f = less-fits (c .args .v) in
-    rw (toZ-pos w64 {n = c .args .v % 4294967296} (omega arith), toZ-ofZ {w = w64} (sfits-widen tt f)) (toZ-ofZ f)
+returns c = search needs
 
 pub signed-spec : {M : Type 1} → statement M
 signed-spec = tie.close (tie.spec cast-result sub-result cast-result-2 returns)
