@@ -83,8 +83,6 @@ pub record Computed : Type 0 where
   -- fed in two parts, cut within the second line; the last line lacks its newline
   pub parts : lines (rowsOfParts startSheet ((frame ++ 115 ∷ 116 ∷ 97 ∷ []) ∷ (108 ∷ 108 ∷ 9 ∷ 48 ∷ 9 ∷ 48 ∷ 9 ∷ 48 ∷ 9 ∷ 50 ∷ 9 ∷ 50 ∷ 10 ∷ cell) ∷ []))
       ≡ (1 ∷ 0 ∷ 480 ∷ []) ∷ (2 ∷ 0 ∷ 160 ∷ []) ∷ (3 ∷ 0 ∷ 417 ∷ []) ∷ []
-  -- a cell is counted from its stall's corner: 449, the paper's own
-  pub corner : printed (frame ++ second) ≡ (1 ∷ 0 ∷ 480 ∷ []) ∷ (2 ∷ 0 ∷ 40 ∷ []) ∷ (3 ∷ 0 ∷ 449 ∷ []) ∷ []
   -- no input, no rows
   pub none : printed [] ≡ []
 
