@@ -14,6 +14,7 @@ use quantize::Quantized;
 use refusal::Answer;
 use refusal::Quantity;
 use regions::Outcome;
+use regions::Rectangle;
 use regions::Region;
 use regions::RegionTable;
 use std::num::wrapping_add_usize;
@@ -82,6 +83,16 @@ fn answered(command: u32, n: [u64; 16], elements: &mut [i16], buffer: &mut [u8])
     }
 }
 
+// Numbers `w0 h0 w h`, the first number k.
+fn rectangle_at(n: [u64; 16], k: usize) -> Rectangle {
+    Rectangle {
+        column: natural(n, k),
+        row: natural(n, wrapping_add_usize(k, 1)),
+        columns: natural(n, wrapping_add_usize(k, 2)),
+        rows: natural(n, wrapping_add_usize(k, 3)),
+    }
+}
+
 // The table with numbers 1 to 5, `placed w0 h0 w h`, put in the slot of number 0 by hand; a slot above 15 changes nothing.
 fn with_slot(n: [u64; 16], table: RegionTable) -> RegionTable {
     let i = natural(n, 0) as usize;
@@ -89,10 +100,7 @@ fn with_slot(n: [u64; 16], table: RegionTable) -> RegionTable {
     if i < 16 {
         t.slots[i] = Region {
             placed: natural(n, 1) != 0,
-            column: natural(n, 2),
-            row: natural(n, 3),
-            columns: natural(n, 4),
-            rows: natural(n, 5),
+            rectangle: rectangle_at(n, 2),
         };
     }
     t
@@ -117,14 +125,7 @@ fn made(command: u32, n: [u64; 16], table: RegionTable) -> RegionTable {
 
 // `place`: numbers 0 to 4, `slot w0 h0 w h`.
 fn place(n: [u64; 16], table: RegionTable) -> Outcome {
-    regions::place(
-        table,
-        natural(n, 0),
-        natural(n, 1),
-        natural(n, 2),
-        natural(n, 3),
-        natural(n, 4),
-    )
+    regions::place(table, natural(n, 0), rectangle_at(n, 1))
 }
 
 // The call that a command from 21 to 33 names.
