@@ -87,5 +87,5 @@ pub record Computed : Type 0 where
   pub none : printed [] ≡ []
 
 pub computed : Computed
-unfolding requireAt inOrder leaves elementBytes surfaces elementPosition cubeExtent spanInside spanHas sizeTaken sizesTaken wholeAtoms stridesTaken layoutChecks slotOf slotsOf rectangleHas taken anyFrom overlaps rectangleInside slotAt isFilled rectangleOf placeChecks boxInRectangle areaChecks placeAnswer placeTable before split fieldsOf withoutEmptyLast linesOf partLength sameText isDigit allDigits digitsAfter isEmpty wellBegun numberOf andNumber listed inTable numbersOf withByte added lineText nextLines collected shaped frameOf stallOf cellOf byWord byFields recordOf lineRecord framedOr recordAnswer recordValue recordDone valueAfter deskAfter rowOf rowsAfter sheet startSheet lineEnded lineRow fed finished andThen partFed rowsOfParts output rowText fieldsText digits leadingIn numeral flatten
+unfolding requireAt inOrder leaves elementBytes surfaces elementPosition cubeExtent spanInside spanHas sizeTaken sizesTaken wholeAtoms stridesTaken layoutChecks slotOf slotsOf rectangleHas occupied anyFrom overlaps rectangleInside slotAt isFilled rectangleOf placeChecks boxInRectangle slotChecks regionBoxChecks placeAnswer placeTable before split fieldsOf withoutEmptyLast linesOf partLength sameText isDigit allDigits digitsAfter isEmpty wellBegun numberOf andNumber listed inTable numbersOf withByte added lineText nextLines collected shaped frameOf stallOf cellOf byWord byFields recordOf lineRecord framedOr recordAnswer recordValue recordDone valueAfter deskAfter rowOf rowsAfter sheet startSheet lineEnded lineRow fed finished andThen partFed rowsOfParts output rowText fieldsText digits leadingIn numeral flatten
 computed = record { text = refl; session = refl; ended = refl; refused = refl; emptied = refl; corner = refl; parts = refl; none = refl }
