@@ -1,6 +1,5 @@
 -- Elements (k, c, r, s), their numbers and their raw indices: a number leads back to the raw index, and no two elements share either. A raw
 -- index is a number of four digits. Assumes nothing.
---     Element                          (k, c, r, s) is an element of the tensor
 --     number-lt, rawAt-number          its number is below the count, and leads back to its raw index
 --     index-lt, numberAt-index         its raw index is below the count, and leads to its number
 --     index-inj, number-inj            no two elements share a raw index, or a number
@@ -14,13 +13,7 @@ use Rattle.weights.specs.Geometry.{groupOf, elementCount, rawIndex, grou
 use Rattle.weights.specs.Steps.{pixelNumber, pixelIndex}
 use Rattle.weights.proofs.NumberLaws as number
 use Rattle.weights.proofs.NumberLaws.{groupSize-pos, Place, rawAt-pixel}
-
--- (k, c, r, s) is an element of the tensor
-pub record Element (q : WeightLayout) (k c r s : ℕ) : Type 0 where
-  pub kernel-lt : k < q .kernels
-  pub channel-lt : c < q .channels
-  pub row-lt : r < q .rows
-  pub column-lt : s < q .columns
+pub use Rattle.weights.specs.Places.{Element}
 
 -- ---- from an element to its number and back to its raw index
 

@@ -1,4 +1,4 @@
--- Laws of the definitions of specs/, for the crates above; Places states the claims. The last seven serve the walk alone.
+-- Laws of the definitions of specs/, for the crates above. The last seven serve the walk alone.
 --     Taken           what accepted sizes tell
 --     RuleLaws        checks 1, 2, 6, 5 as the code goes through them
 --     CallLaws        what an accepted call tells, and what each call answers and leaves
@@ -9,7 +9,8 @@
 --     SurfaceLaws     the packed surface, and each byte after packing
 --     PositionLaws    the bytes of the elements: own, aligned, inside
 --     RoundTrip       what is packed is read back
---     Places          the statements about numbers, places, fill and the round trip
+--     PackLaws        what an accepted packing comes to
+--     Claims          the claims about packed weights, of the calls
 --     BoundLaws       counts within 64 bits
 --     RunLaws         runs, and the run behind a run
 --     CellLaws        what the columns of a run hold
@@ -26,7 +27,8 @@ pub mod IndexLaws
 pub mod SurfaceLaws
 pub mod PositionLaws
 pub mod RoundTrip
-pub mod Places
+pub mod PackLaws
+pub mod Claims
 pub mod BoundLaws
 pub mod RunLaws
 pub mod CellLaws

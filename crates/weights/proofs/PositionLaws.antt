@@ -20,17 +20,7 @@ use Rattle.weights.proofs.Taken.{Taken}
 use Rattle.weights.proofs.ElementLaws.{Element, number-lt, number-inj, rawAt-number}
 use Rattle.weights.proofs.IndexLaws.{number-reached}
 use Rattle.weights.proofs.SurfaceLaws.{surface-ge, byte-within, packed-byte}
-
--- byte p is byte b of element (k, c, r, s), for some of the tensor's
-pub record ElementByte (q : WeightLayout) (p : ℕ) : Type 0 where
-  pub k : ℕ
-  pub c : ℕ
-  pub r : ℕ
-  pub s : ℕ
-  pub b : ℕ
-  pub element : Element q k c r s
-  pub byte-lt : b < sizeOf q
-  pub place : p ≡ elementPosition q k c r s + b
+use Rattle.weights.specs.Places.{ElementByte}
 
 module _ (q : WeightLayout) (k c r s b : ℕ) (hb : b < sizeOf q) where
   position-number : (elementPosition q k c r s + b) / sizeOf q ≡ elementNumber q k c r s

@@ -1,5 +1,5 @@
 -- Where direct-convolution weights lie in their packed surface (scope paper, "Weights"). K kernels of C channels, R rows and S columns. All
--- numbers are whole numbers: nothing wraps. That the numbering has the inverse given here is proved in proofs/Places.antt. Assumes nothing.
+-- numbers are whole numbers: nothing wraps. That the numbering has the inverse given here is proved in proofs/Claims.antt. Assumes nothing.
 use Prim.Native.Nat.{ℕ, zero, suc, _+_, _-_, _*_, _/_, _%_, min}
 use Rattle.elements.specs.Bytes.{elementBytes}
 use Rattle.weights.specs.declared.WeightLayout.{WeightLayout}

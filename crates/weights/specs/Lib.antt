@@ -1,4 +1,5 @@
 pub mod Geometry
+pub mod Places
 pub mod Rules
 pub mod Contents
 pub mod Calls
