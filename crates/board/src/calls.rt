@@ -8,17 +8,12 @@ use crate::print::print_answer;
 use crate::print::print_natural;
 use crate::print::print_signed;
 use layout::CubeLayout;
-use layout::ElementBox;
-use pixels::PixelSetting;
 use quantize::Quantized;
 use refusal::Answer;
 use refusal::Quantity;
 use regions::Outcome;
-use regions::Rectangle;
-use regions::Region;
 use regions::RegionTable;
 use std::num::wrapping_add_usize;
-use weights::WeightLayout;
 
 // Numbers 0 to 6, `W H C precision line surface start`.
 pub fn cube_layout(n: [u64; 16]) -> CubeLayout {
@@ -34,8 +29,8 @@ pub fn cube_layout(n: [u64; 16]) -> CubeLayout {
 }
 
 // Numbers 0 to 4, `K C R S precision`.
-fn weight_layout(n: [u64; 16]) -> WeightLayout {
-    WeightLayout {
+fn weight_layout(n: [u64; 16]) -> weights::WeightLayout {
+    weights::WeightLayout {
         kernels: natural(n, 0),
         channels: natural(n, 1),
         rows: natural(n, 2),
@@ -45,8 +40,8 @@ fn weight_layout(n: [u64; 16]) -> WeightLayout {
 }
 
 // Numbers `c h w nc nh nw`, the first number k.
-fn box_at(n: [u64; 16], k: usize) -> ElementBox {
-    ElementBox {
+fn box_at(n: [u64; 16], k: usize) -> layout::ElementBox {
+    layout::ElementBox {
         channel: natural(n, k),
         row: natural(n, wrapping_add_usize(k, 1)),
         column: natural(n, wrapping_add_usize(k, 2)),
@@ -57,8 +52,8 @@ fn box_at(n: [u64; 16], k: usize) -> ElementBox {
 }
 
 // Numbers 0 to 7, `format width height channels precision offset start line`.
-fn pixel_setting(n: [u64; 16]) -> PixelSetting {
-    PixelSetting {
+fn pixel_setting(n: [u64; 16]) -> pixels::PixelSetting {
+    pixels::PixelSetting {
         format: natural(n, 0),
         width: natural(n, 1),
         height: natural(n, 2),
@@ -70,27 +65,33 @@ fn pixel_setting(n: [u64; 16]) -> PixelSetting {
     }
 }
 
-// `pack`, `write`, `pack_weights`, `unpack`, `read`, `unpack_weights`; any other counts as `pixel setting`.
-fn answered(command: u32, n: [u64; 16], elements: &mut [i16], buffer: &mut [u8]) -> Answer {
+// `pack`, `write`, `unpack`; any other counts as `read`.
+fn on_cube(command: u32, n: [u64; 16], elements: &mut [i16], buffer: &mut [u8]) -> Answer {
+    let q = cube_layout(n);
+    let area = box_at(n, 7);
     match command {
-        21 => cube::pack(cube_layout(n), elements, buffer),
-        22 => cube::write_box(cube_layout(n), box_at(n, 7), elements, buffer),
-        23 => weights::pack(weight_layout(n), elements, buffer),
-        25 => cube::unpack(cube_layout(n), buffer, elements),
-        26 => cube::read_box(cube_layout(n), box_at(n, 7), buffer, elements),
-        27 => weights::unpack(weight_layout(n), buffer, elements),
-        _ => pixels::setting(pixel_setting(n)),
+        21 => cube::pack(q, elements, buffer),
+        22 => cube::write_box(q, area, elements, buffer),
+        25 => cube::unpack(q, buffer, elements),
+        _ => cube::read_box(q, area, buffer, elements),
     }
 }
 
-// Numbers `w0 h0 w h`, the first number k.
-fn rectangle_at(n: [u64; 16], k: usize) -> Rectangle {
-    Rectangle {
-        column: natural(n, k),
-        row: natural(n, wrapping_add_usize(k, 1)),
-        columns: natural(n, wrapping_add_usize(k, 2)),
-        rows: natural(n, wrapping_add_usize(k, 3)),
+// `pack_weights`; any other counts as `unpack_weights`.
+fn on_weights(command: u32, n: [u64; 16], elements: &mut [i16], buffer: &mut [u8]) -> Answer {
+    let q = weight_layout(n);
+    if command == 23 {
+        return weights::pack(q, elements, buffer);
     }
+    weights::unpack(q, buffer, elements)
+}
+
+// A call on a cube or on weights.
+fn on_packed(command: u32, n: [u64; 16], elements: &mut [i16], buffer: &mut [u8]) -> Answer {
+    if command == 23 || command == 27 {
+        return on_weights(command, n, elements, buffer);
+    }
+    on_cube(command, n, elements, buffer)
 }
 
 // The table with numbers 1 to 5, `placed w0 h0 w h`, put in the slot of number 0 by hand; a slot above 15 changes nothing.
@@ -98,7 +99,7 @@ fn with_slot(n: [u64; 16], table: RegionTable) -> RegionTable {
     let i = natural(n, 0) as usize;
     let mut t = table;
     if i < 16 {
-        t.slots[i] = Region {
+        t.slots[i] = regions::Region {
             placed: natural(n, 1) != 0,
             rectangle: rectangle_at(n, 2),
         };
@@ -128,7 +129,22 @@ fn place(n: [u64; 16], table: RegionTable) -> Outcome {
     regions::place(table, natural(n, 0), rectangle_at(n, 1))
 }
 
-// The call that a command from 21 to 33 names.
+// The calls from 29 to 33, which look at no list: `desk`, `place`, by hand, `pixel setting`.
+pub fn call_apart(command: u32, n: [u64; 16], table: RegionTable) -> Outcome {
+    match command {
+        30 => place(n, table),
+        33 => Outcome {
+            answer: pixels::setting(pixel_setting(n)),
+            table: table,
+        },
+        _ => Outcome {
+            answer: Answer::Accepted,
+            table: made(command, n, table),
+        },
+    }
+}
+
+// The calls from 21 to 28, on elements and buffer.
 pub fn call(
     command: u32,
     n: [u64; 16],
@@ -136,18 +152,15 @@ pub fn call(
     elements: &mut [i16],
     buffer: &mut [u8],
 ) -> Outcome {
-    match command {
-        24 => regions::edit(table, natural(n, 0), box_at(n, 1), elements, buffer),
-        28 => regions::read(table, natural(n, 0), box_at(n, 1), buffer, elements),
-        30 => place(n, table),
-        29 | 31..=32 => Outcome {
-            answer: Answer::Accepted,
-            table: made(command, n, table),
-        },
-        _ => Outcome {
-            answer: answered(command, n, elements, buffer),
-            table: table,
-        },
+    if command == 24 {
+        return regions::edit(table, natural(n, 0), box_at(n, 1), elements, buffer);
+    }
+    if command == 28 {
+        return regions::read(table, natural(n, 0), box_at(n, 1), buffer, elements);
+    }
+    Outcome {
+        answer: on_packed(command, n, elements, buffer),
+        table: table,
     }
 }
 

@@ -220,27 +220,15 @@ pub fn is_whole(line: Line) -> bool {
     line.command != UNKNOWN && !line.damaged && (kind == b'\n' || list_of(kind) < 3)
 }
 
-// Number k of a line, as a natural number, an element, a signed number of 32 bits.
+// Number k of a line's sixteen, as a natural number, an element, a signed number of 32 bits.
 pub fn natural(numbers: [u64; 16], k: usize) -> u32 {
-    if k < 16 {
-        crate::numbers::natural(numbers[k])
-    } else {
-        0
-    }
+    crate::numbers::natural(numbers[k % 16])
 }
 
 pub fn short(numbers: [u64; 16], k: usize) -> i16 {
-    if k < 16 {
-        crate::numbers::short(numbers[k])
-    } else {
-        0
-    }
+    crate::numbers::short(numbers[k % 16])
 }
 
 pub fn signed(numbers: [u64; 16], k: usize) -> i32 {
-    if k < 16 {
-        crate::numbers::signed(numbers[k])
-    } else {
-        0
-    }
+    crate::numbers::signed(numbers[k % 16])
 }

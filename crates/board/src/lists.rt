@@ -80,14 +80,7 @@ fn next(source: Source) -> Source {
 }
 
 // Puts a number at index i of a list, if there is one.
-pub fn put(
-    list: u32,
-    i: usize,
-    v: u64,
-    elements: &mut [i16],
-    buffer: &mut [u8],
-    samples: &mut [i32],
-) {
+fn put(list: u32, i: usize, v: u64, elements: &mut [i16], buffer: &mut [u8], samples: &mut [i32]) {
     match list {
         0 => {
             if i < elements.len() {

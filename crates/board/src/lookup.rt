@@ -12,24 +12,19 @@ use crate::print::end_line;
 use crate::print::print_answer;
 use crate::print::print_natural;
 use crate::state::State;
-use camera::Choice;
-use camera::Ready;
 use lut::Counters;
-use lut::LutOutcome;
 use lut::LutSettings;
-use lut::Slope;
 use lut::Table;
 use lut::XMode;
 use lut::XSettings;
 use lut::YSettings;
 use refusal::Answer;
-use std::num::wrapping_add_usize;
 
 // The slope of number k and the next, `scale shift`.
-fn slope_at(n: [u64; 16], k: usize) -> Slope {
-    Slope {
+fn slope_at(n: [u64; 16], k: usize) -> lut::Slope {
+    lut::Slope {
         scale: short(n, k),
-        shift: signed(n, wrapping_add_usize(k, 1)),
+        shift: signed(n, std::num::wrapping_add_usize(k, 1)),
     }
 }
 
@@ -65,18 +60,16 @@ fn table_at(n: [u64; 16], k: usize) -> Table {
 }
 
 // The choice of number k: 0 names X, 1 names Y, any other none.
-fn choice_at(n: [u64; 16], k: usize) -> Choice {
+fn choice_at(n: [u64; 16], k: usize) -> camera::Choice {
     match natural(n, k) {
-        0 => Choice::Named(Table::X),
-        1 => Choice::Named(Table::Y),
-        _ => Choice::Unnamed,
+        0 => camera::Choice::Named(Table::X),
+        1 => camera::Choice::Named(Table::Y),
+        _ => camera::Choice::Unnamed,
     }
 }
 
 // The settings with the bits of numbers 0 to 2, `priority overflow underflow`.
-fn with_bits(n: [u64; 16], s: LutSettings) -> LutSettings {
-    let x = s.x;
-    let y = s.y;
+fn with_bits(n: [u64; 16], x: XSettings, y: YSettings) -> LutSettings {
     LutSettings {
         x,
         y,
@@ -86,21 +79,28 @@ fn with_bits(n: [u64; 16], s: LutSettings) -> LutSettings {
     }
 }
 
+// The settings of a line of zeros.
+pub fn settings_of(n: [u64; 16]) -> LutSettings {
+    with_bits(n, x_settings(n, XMode::Linear(0)), y_settings(n))
+}
+
 // `x linear`, `x exponential`, `y`, `bits`: the settings after each; any other leaves them.
 fn settings_after(command: u32, n: [u64; 16], before: LutSettings) -> LutSettings {
+    let x = before.x;
+    let y = before.y;
     let mut s = before;
     match command {
         40 => s.x = x_settings(n, XMode::Linear(signed(n, 0))),
         41 => s.x = x_settings(n, XMode::Exponential(signed(n, 0))),
         42 => s.y = y_settings(n),
-        43 => s = with_bits(n, before),
+        43 => s = with_bits(n, x, y),
         _ => {}
     }
     s
 }
 
 // `counters x_only y_only underflow overflow priority`.
-fn counters_of(n: [u64; 16]) -> Counters {
+pub fn counters_of(n: [u64; 16]) -> Counters {
     Counters {
         x: natural(n, 0),
         y: natural(n, 1),
@@ -119,12 +119,12 @@ fn ready(line: u64, n: [u64; 16], before: LutSettings) -> LutSettings {
         choice_at(n, 3),
     );
     match made {
-        Ready::Setting(settings) => {
+        camera::Ready::Setting(settings) => {
             print_answer(line, Answer::Accepted);
             end_line();
             settings
         }
-        Ready::Denied(r, at) => {
+        camera::Ready::Denied(r, at) => {
             print_answer(line, Answer::Refused(r, at));
             end_line();
             before
@@ -155,7 +155,7 @@ fn run_split(
     entries: &[i16],
     samples: &[i32],
     outputs: &mut [i32],
-) -> LutOutcome
+) -> lut::LutOutcome
     requires { ⌜ split ≤ length (now entries) ⌝ }
 {
     lut::run(

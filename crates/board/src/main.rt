@@ -109,24 +109,41 @@ fn show(line: Line, elements: &[i16], buffer: &[u8], samples: &[i32]) {
     }
 }
 
-// A call on a cube, on weights or on the region table; prints its answer and what it left.
+// A call on elements and buffer; prints its answer and what it left.
 fn call(state: State, elements: &mut [i16], buffer: &mut [u8], samples: &[i32]) -> State {
     let line = state.line;
-    let numbers = line.numbers;
-    let command = line.command;
+    let n = line.numbers;
     let before = state.table;
-    let outcome = calls::call(command, numbers, before, elements, buffer);
+    let outcome = calls::call(line.command, n, before, elements, buffer);
     let answer = outcome.answer;
     let table = outcome.table;
+    print::print_answer(line.number, answer);
+    lists::tell_left(changed(line.command), state.sums, elements, buffer, samples);
     let mut s = state;
     s.table = table;
-    print::print_answer(line.number, answer);
-    if 28 < command {
-        print::end_line();
-        return s;
-    }
-    lists::tell_left(changed(command), s.sums, elements, buffer, samples);
     s
+}
+
+// A call that looks at no list; prints its answer.
+fn call_apart(state: State) -> State {
+    let line = state.line;
+    let n = line.numbers;
+    let before = state.table;
+    let outcome = calls::call_apart(line.command, n, before);
+    let answer = outcome.answer;
+    let table = outcome.table;
+    print::print_answer(line.number, answer);
+    print::end_line();
+    let mut s = state;
+    s.table = table;
+    s
+}
+
+// `set element`: element i, if there is one.
+fn set_element(i: usize, v: u64, elements: &mut [i16]) {
+    if i < elements.len() {
+        elements[i] = numbers::short(v);
+    }
 }
 
 // A command on what is lent.
@@ -136,8 +153,7 @@ fn run_lent(state: State, elements: &mut [i16], buffer: &mut [u8], samples: &mut
     let command = line.command;
     match command {
         12 => {
-            let i = natural(numbers, 0) as usize;
-            lists::put(0, i, numbers[1], elements, buffer, samples);
+            set_element(natural(numbers, 0) as usize, numbers[1], elements);
             state
         }
         15..=20 => {
@@ -166,7 +182,7 @@ fn run_on(state: State, elements: &mut [i16], buffer: &mut [u8], samples: &mut [
     )
 }
 
-// A command that looks at no list: how to print, a value, a setting of the lookup.
+// A command that looks at no list: how to print, the region table, a value, a setting of the lookup.
 fn run_apart(state: State) -> State {
     let line = state.line;
     let numbers = line.numbers;
@@ -175,6 +191,7 @@ fn run_apart(state: State) -> State {
     match command {
         13 => s.sums = false,
         14 => s.sums = true,
+        29..=33 => s = call_apart(state),
         34..=39 => calls::print_value(line.number, command, numbers),
         _ => s = lookup::set(state),
     }
@@ -184,7 +201,7 @@ fn run_apart(state: State) -> State {
 // Whether a command looks at no list.
 fn is_apart(command: u32) -> bool {
     match command {
-        13..=14 | 34..=45 => true,
+        13..=14 | 29..=45 => true,
         _ => false,
     }
 }
@@ -229,15 +246,15 @@ fn run_line(state: State, elements: &mut [i16], buffer: &mut [u8], samples: &mut
         return state;
     }
     if !line::is_whole(line) {
-        print::print_unreadable(line.number);
+        print::print_text(line.number, b" unreadable\n");
         return spoiled(state);
     }
     if state.spoilt & commands::uses(line.command) != 0 {
-        print::print_not_made(line.number);
+        print::print_text(line.number, b" not made\n");
         return spoiled(state);
     }
     if !is_within(state) {
-        print::print_unreadable(line.number);
+        print::print_text(line.number, b" unreadable\n");
         return spoiled(state);
     }
     mended(run_made(state, elements, buffer, samples))

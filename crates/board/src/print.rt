@@ -12,16 +12,10 @@ pub fn print_line_number(line: u64) {
     io::write_all(STDOUT_FILENO, b":");
 }
 
-// The answer to a line that is not understood.
-pub fn print_unreadable(line: u64) {
+// Line number and a text.
+pub fn print_text(line: u64, text: &[u8]) {
     print_line_number(line);
-    io::write_all(STDOUT_FILENO, b" unreadable\n");
-}
-
-// The answer to a call that is not made.
-pub fn print_not_made(line: u64) {
-    print_line_number(line);
-    io::write_all(STDOUT_FILENO, b" not made\n");
+    io::write_all(STDOUT_FILENO, text);
 }
 
 // A space and a natural number.

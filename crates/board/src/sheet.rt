@@ -5,14 +5,11 @@ use crate::print::end_line;
 use crate::print::print_line_number;
 use crate::print::print_natural;
 use libc::STDOUT_FILENO;
-use script::Fed;
-use script::Given;
 use script::Row;
-use script::Sheet;
 
 // A sheet under way, the checksum of its rows so far, and how many bytes the last call read.
 struct Progress {
-    sheet: Sheet,
+    sheet: script::Sheet,
     sum: u64,
     read: usize,
 }
@@ -46,8 +43,8 @@ fn with_row(sum: u64, row: Row) -> u64 {
 }
 
 // A checksum with the row that a call gave, if it gave one; it is printed if `shown`.
-fn with_given(sum: u64, given: Given, shown: bool) -> u64 {
-    let Given::Line(row) = given else {
+fn with_given(sum: u64, given: script::Given, shown: bool) -> u64 {
+    let script::Given::Line(row) = given else {
         return sum;
     };
     if shown {
@@ -57,7 +54,7 @@ fn with_given(sum: u64, given: Given, shown: bool) -> u64 {
 }
 
 // The run after a call that answered `fed`.
-fn after(sum: u64, fed: Fed, shown: bool) -> Progress {
+fn after(sum: u64, fed: script::Fed, shown: bool) -> Progress {
     let sheet = fed.sheet;
     let given = fed.given;
     Progress {
