@@ -11,7 +11,7 @@ ELEMENTS_MAX = 8192
 BUFFER_MAX = 65536
 
 OWN_NUMBERS = 13
-CONTENTS = {"n": 0, "m": 0, "seed": 0, "base": 0, "span": 1, "fault_index": 0, "fault_value": 0}
+CONTENTS = {"n": 0, "m": 0, "base": 0, "span": 1, "fault_index": 0, "fault_value": 0}
 
 
 def case_type(name, own):

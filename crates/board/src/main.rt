@@ -38,17 +38,20 @@ fn list_of(command: u32) -> u32 {
     }
 }
 
-// The list that a call from 21 to 28 may change: the buffer, or from 25 on the elements.
-fn changed(command: u32) -> u32 {
-    if command < 25 { 1 } else { 0 }
-}
-
 // The index at which a drawing line begins: behind what is lent for `more`, else 0.
-fn drawn_from(command: u32, state: State) -> usize {
+fn drawn_from(command: u32, counts: [usize; 3]) -> usize {
     match command {
-        8..=10 => state::count_of(state, list_of(command)),
+        8..=10 => counts[(list_of(command) % 3) as usize],
         _ => 0,
     }
+}
+
+// The state with so many members of a list lent.
+fn with_count(state: State, list: u32, count: usize) -> State {
+    let mut s = state;
+    let k = (list % 3) as usize;
+    s.counts[k] = count;
+    s
 }
 
 // Whether the counts and the index of a line are within their limits.
@@ -56,12 +59,13 @@ fn is_within(state: State) -> bool {
     let line = state.line;
     let numbers = line.numbers;
     let command = line.command;
+    let counts = state.counts;
     let n = natural(numbers, 0) as usize;
     let most = lists::room(list_of(command));
     match command {
-        3..=11 => n <= most && drawn_from(command, state) <= most - n,
-        12 => n < state.elements,
-        46 => n <= state.elements && natural(numbers, 1) <= 65536,
+        3..=11 => n <= most && drawn_from(command, counts) <= most - n,
+        12 => n < counts[0],
+        46 => n <= counts[0] && natural(numbers, 1) <= 65536,
         _ => true,
     }
 }
@@ -88,13 +92,14 @@ fn lend(state: State, elements: &mut [i16], buffer: &mut [u8], samples: &mut [i3
     let command = line.command;
     let list = list_of(command);
     if command < 3 {
-        return state::with_count(state, list, line.members);
+        return with_count(state, list, line.members);
     }
-    let from = drawn_from(command, state);
+    let counts = state.counts;
+    let from = drawn_from(command, counts);
     let end = wrapping_add_usize(from, natural(numbers, 0) as usize);
     let source = source_of(command, numbers);
     lists::draw(list, from, end, source, elements, buffer, samples);
-    state::with_count(state, list, end)
+    with_count(state, list, end)
 }
 
 // `show`, `sum`: a list, or its checksum.
@@ -118,7 +123,8 @@ fn call(state: State, elements: &mut [i16], buffer: &mut [u8], samples: &[i32]) 
     let answer = outcome.answer;
     let table = outcome.table;
     print::print_answer(line.number, answer);
-    lists::tell_left(changed(line.command), state.sums, elements, buffer, samples);
+    let list = if line.command < 25 { 1 } else { 0 };
+    lists::tell_left(list, state.sums, elements, buffer, samples);
     let mut s = state;
     s.table = table;
     s
@@ -171,9 +177,10 @@ fn run_lent(state: State, elements: &mut [i16], buffer: &mut [u8], samples: &mut
 
 // A command on the parts of the lists that are lent.
 fn run_on(state: State, elements: &mut [i16], buffer: &mut [u8], samples: &mut [i32]) -> State {
-    let n = held(state.elements, elements.len());
-    let m = held(state.buffer, buffer.len());
-    let k = held(state.samples, samples.len());
+    let counts = state.counts;
+    let n = held(counts[0], elements.len());
+    let m = held(counts[1], buffer.len());
+    let k = held(counts[2], samples.len());
     run_lent(
         state,
         &mut elements[..n],

@@ -27,15 +27,14 @@ fn print_row(row: Row) {
 
 // A checksum after a number of 64 bits.
 fn mixed(sum: u64, n: u64) -> u64 {
-    let low = (sum % 4294967296 * 65599 + n % 4294967296 + 1) % 4294967296;
-    (low * 65599 + n / 4294967296 + 1) % 4294967296
+    (sum % 4294967296 * 65599 + n % 4294967296 + n / 4294967296 * 31 + 1) % 4294967296
 }
 
 // A checksum with a row more; the fault index counts too.
 fn with_row(sum: u64, row: Row) -> u64 {
     let answer = row.answer;
-    let numbered = mixed(sum, row.line);
-    let coded = mixed(numbered, refusal::answer_code(answer) as u64);
+    let code = refusal::answer_code(answer) as u64;
+    let coded = mixed(mixed(sum, row.line), code);
     mixed(
         mixed(coded, refusal::answer_place(answer) as u64),
         row.value,

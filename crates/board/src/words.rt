@@ -52,26 +52,6 @@ fn extended(value: u64, c: u8, hexadecimal: bool) -> u64 {
     BAD
 }
 
-// A word after a `*`.
-fn with_star(word: Word) -> Word {
-    let mut w = word;
-    if w.starred {
-        w.value = BAD;
-    }
-    w.starred = true;
-    w
-}
-
-// A word after a `-`.
-fn with_minus(word: Word) -> Word {
-    let mut w = word;
-    if w.negative || 0 < w.digits {
-        w.value = BAD;
-    }
-    w.negative = true;
-    w
-}
-
 // A word after a digit.
 fn with_digit(word: Word, c: u8, hexadecimal: bool) -> Word {
     let mut w = word;
@@ -86,11 +66,22 @@ fn with_digit(word: Word, c: u8, hexadecimal: bool) -> Word {
     w
 }
 
+// A word after a mark, `*` or `-`: BAD where it came too late.
+fn with_mark(word: Word, star: bool, late: bool) -> Word {
+    let mut w = word;
+    w.starred = w.starred || star;
+    w.negative = w.negative || !star;
+    if late {
+        w.value = BAD;
+    }
+    w
+}
+
 // A word with one byte more, which is no space and no newline.
 pub fn with_byte(word: Word, c: u8, hexadecimal: bool) -> Word {
     match c {
-        b'*' => with_star(word),
-        b'-' => with_minus(word),
+        b'*' => with_mark(word, true, word.starred),
+        b'-' => with_mark(word, false, word.negative || 0 < word.digits),
         _ => with_digit(word, c, hexadecimal),
     }
 }

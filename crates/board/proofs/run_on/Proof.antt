@@ -7,11 +7,20 @@ use borrow.Author.Needs.{needs}
 use Rattle.board.proofs.run_on.Statement.{statement}
 use Rattle.board.proofs.run_on.Tie as tie
 
+array-read-held : tie.Need-array-read-held
+array-read-held c = search needs
+
 held-requires : tie.Need-held-requires
 held-requires c κs = search needs
 
+array-read-held-2 : tie.Need-array-read-held-2
+array-read-held-2 c = search needs
+
 held-requires-2 : tie.Need-held-requires-2
 held-requires-2 c κs = search needs
+
+array-read-held-3 : tie.Need-array-read-held-3
+array-read-held-3 c = search needs
 
 held-requires-3 : tie.Need-held-requires-3
 held-requires-3 c κs = search needs
@@ -53,8 +62,11 @@ pub run-on-spec : {M : Type 1} → statement M
 run-on-spec =
     tie.close
     (tie.spec
+    array-read-held
     held-requires
+    array-read-held-2
     held-requires-2
+    array-read-held-3
     held-requires-3
     slice-relend-prefix-run-lent
     slice-aggregate-run-lent
