@@ -466,17 +466,18 @@ def lines_of(path):
     return path.read_text(encoding="ascii").split("\n")[:-1] if path.exists() else []
 
 
+def renumbered(lines, shift):
+    """Lines of output with the numbers of their answers moved."""
+    return [re.sub(r"^\d+(?=: )", lambda m: str(int(m[0]) + shift), text) for text in lines]
+
+
 def own_cases():
-    """The cases below the mark, and what is stored for them; the numbers there are of lines below the mark."""
+    """The cases below the mark, and what is stored for them, as if they stood at the beginning."""
     given, stored = lines_of(INPUT), lines_of(OUTPUT)
-    if MARK not in given:
+    if MARK not in given or given[-1] == MARK:
         return [], []
     at = given.index(MARK) + 1
-    number = re.compile(r"(\d+)(?=: )")
-    first = [k for k, text in enumerate(stored) if (m := number.match(text)) and int(m[1]) > at]
-    own = stored[first[0]:] if first else []
-    return given[at:], [number.sub(lambda m: str(int(m[1]) - at), text, count=1) if number.match(text) else text
-                        for text in own]
+    return given[at:], renumbered(stored[len(printed(given[:at])):], -at)
 
 
 def write(path, lines):
@@ -489,5 +490,4 @@ if __name__ == "__main__":
     own, stored = own_cases()
     cases = lines_of(CASES) + bulk.lines() + ["print all", MARK]
     write(INPUT, cases + own)
-    numbered = [re.sub(r"^(\d+)(?=: )", lambda m: str(int(m[1]) + len(cases)), text) for text in stored]
-    write(OUTPUT, printed(cases) + numbered)
+    write(OUTPUT, printed(cases) + renumbered(stored, len(cases)))
