@@ -51,6 +51,16 @@ fn box_at(n: [u64; 16], k: usize) -> layout::ElementBox {
     }
 }
 
+// Numbers `w0 h0 w h`, the first number k.
+fn rectangle_at(n: [u64; 16], k: usize) -> regions::Rectangle {
+    regions::Rectangle {
+        column: natural(n, k),
+        row: natural(n, wrapping_add_usize(k, 1)),
+        columns: natural(n, wrapping_add_usize(k, 2)),
+        rows: natural(n, wrapping_add_usize(k, 3)),
+    }
+}
+
 // Numbers 0 to 7, `format width height channels precision offset start line`.
 fn pixel_setting(n: [u64; 16]) -> pixels::PixelSetting {
     pixels::PixelSetting {
