@@ -24,8 +24,8 @@ pub extern "C" fn olsketina_script_begin(state: &mut [u32; 91], text: &mut [u8; 
     let sheet = script::begin();
     let lines = sheet.lines;
     let line = lines.line;
-    let bytes = line.bytes;
-    *text = bytes;
+    let empty = line.bytes;
+    *text = empty;
     sheet_words::put_sheet(state, sheet);
 }
 
