@@ -212,7 +212,7 @@ int64_t olsketina_integers_saturate(int64_t x, int64_t low, int64_t high);
 
 /* Whether a size is 1 to `most`.
  * Refuses nothing. */
-bool olsketina_refusal_size_taken(uint32_t most, uint32_t n);
+bool olsketina_refusal_size_valid(uint32_t most, uint32_t n);
 
 #ifdef __cplusplus
 }

@@ -388,6 +388,6 @@ pub fn integers_saturate(x: i64, low: i64, high: i64) -> i64 {
     unsafe { raw::olsketina_integers_saturate(x, low, high) }
 }
 
-pub fn refusal_size_taken(most: u32, n: u32) -> bool {
-    unsafe { raw::olsketina_refusal_size_taken(most, n) }
+pub fn refusal_size_valid(most: u32, n: u32) -> bool {
+    unsafe { raw::olsketina_refusal_size_valid(most, n) }
 }

@@ -21,7 +21,7 @@ fn demand(kept: bool, number: u32) -> Answer {
     }
 }
 
-fn size_taken(size: u32, most: u32) -> bool {
+fn size_valid(size: u32, most: u32) -> bool {
     (1..=most).contains(&size)
 }
 
@@ -60,7 +60,7 @@ impl CubeLayout {
     /// Refusals 1 to 4.
     fn check(&self) -> Answer {
         let sizes = [self.width, self.height, self.channels];
-        demand(sizes.iter().all(|&size| size_taken(size, 8192)), 1)?;
+        demand(sizes.iter().all(|&size| size_valid(size, 8192)), 1)?;
         demand(self.precision <= 2, 2)?;
         let row = 32 * u64::from(self.width);
         let plane = (u64::from(self.height) - 1) * u64::from(self.line) + row;
@@ -278,10 +278,10 @@ impl WeightLayout {
 
     /// Refusals 1, 2, 6 and 5.
     fn check(&self, elements: usize, buffer: usize) -> Answer {
-        let sizes = size_taken(self.kernels, 8192)
-            && size_taken(self.channels, 8192)
-            && size_taken(self.rows, 32)
-            && size_taken(self.columns, 32);
+        let sizes = size_valid(self.kernels, 8192)
+            && size_valid(self.channels, 8192)
+            && size_valid(self.rows, 32)
+            && size_valid(self.columns, 32);
         demand(sizes, 1)?;
         demand(self.precision <= 2, 2)?;
         demand(elements == self.elements(), 6)?;

@@ -211,5 +211,5 @@ extern "C" {
         place: *mut usize,
     ) -> u32;
     pub fn olsketina_integers_saturate(x: i64, low: i64, high: i64) -> i64;
-    pub fn olsketina_refusal_size_taken(most: u32, n: u32) -> bool;
+    pub fn olsketina_refusal_size_valid(most: u32, n: u32) -> bool;
 }

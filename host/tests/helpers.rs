@@ -120,13 +120,13 @@ fn saturation() {
 
 #[test]
 fn sizes() {
-    let mut tally = Tally::new("refusal_size_taken");
+    let mut tally = Tally::new("refusal_size_valid");
     for most in EDGES {
         for n in EDGES {
-            let ours = calls::refusal_size_taken(most, n);
+            let ours = calls::refusal_size_valid(most, n);
             assert_eq!(
                 ours,
-                reference::refusal_size_taken(most, n),
+                reference::refusal_size_valid(most, n),
                 "{n} of {most}"
             );
             tally.note(u32::from(ours));

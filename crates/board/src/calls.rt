@@ -78,12 +78,12 @@ fn pixel_setting(n: [u64; 16]) -> pixels::PixelSetting {
 // `pack`, `write`, `unpack`; any other counts as `read`.
 fn on_cube(command: u32, n: [u64; 16], elements: &mut [i16], buffer: &mut [u8]) -> Answer {
     let q = cube_layout(n);
-    let area = box_at(n, 7);
+    let b = box_at(n, 7);
     match command {
         21 => cube::pack(q, elements, buffer),
-        22 => cube::write_box(q, area, elements, buffer),
+        22 => cube::write_box(q, b, elements, buffer),
         25 => cube::unpack(q, buffer, elements),
-        _ => cube::read_box(q, area, buffer, elements),
+        _ => cube::read_box(q, b, buffer, elements),
     }
 }
 
@@ -181,7 +181,7 @@ fn print_quantity(line: u64, q: Quantity) {
             print_answer(line, Answer::Accepted);
             print_natural(value);
         }
-        Quantity::Denied(r, at) => {
+        Quantity::Refused(r, at) => {
             print_answer(line, Answer::Refused(r, at));
             print_natural(0);
         }
@@ -195,7 +195,7 @@ fn print_quantized(line: u64, q: Quantized) {
             print_answer(line, Answer::Accepted);
             print_signed(of_short(value));
         }
-        Quantized::Denied(r, at) => {
+        Quantized::Refused(r, at) => {
             print_answer(line, Answer::Refused(r, at));
             print_natural(0);
         }

@@ -124,7 +124,7 @@ fn ready(line: u64, n: [u64; 16], before: LutSettings) -> LutSettings {
             end_line();
             settings
         }
-        camera::Ready::Denied(r, at) => {
+        camera::Ready::Refused(r, at) => {
             print_answer(line, Answer::Refused(r, at));
             end_line();
             before

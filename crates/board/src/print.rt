@@ -44,7 +44,7 @@ pub fn print_signed(v: u64) {
 pub fn print_answer(line: u64, a: Answer) {
     print_line_number(line);
     print_natural(refusal::answer_code(a) as u64);
-    print_natural(refusal::answer_place(a) as u64);
+    print_natural(refusal::fault_index(a) as u64);
 }
 
 // What goes before number i: a line has 32 numbers, a space between.

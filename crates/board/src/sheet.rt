@@ -35,10 +35,7 @@ fn with_row(sum: u64, row: Row) -> u64 {
     let answer = row.answer;
     let code = refusal::answer_code(answer) as u64;
     let coded = mixed(mixed(sum, row.line), code);
-    mixed(
-        mixed(coded, refusal::answer_place(answer) as u64),
-        row.value,
-    )
+    mixed(mixed(coded, refusal::fault_index(answer) as u64), row.value)
 }
 
 // A checksum with the row that a call gave, if it gave one; it is printed if `shown`.

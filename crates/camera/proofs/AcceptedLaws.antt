@@ -15,7 +15,7 @@ use Rattle.refusal.specs.Checks.{require, inOrder}
 use Rattle.refusal.proofs.CheckLaws.{inOrder-next}
 use Rattle.lut.specs.declared.Counters.{Counters}
 use Rattle.lut.specs.Numbers.{between, scaled}
-use Rattle.lut.specs.Rules.{modeTaken, sameZ, endTaken, shiftTaken, counterSum, lutChecks}
+use Rattle.lut.specs.Rules.{modeValid, sameZ, endValid, shiftValid, counterSum, lutChecks}
 use Rattle.lut.specs.Calls.{runAnswer}
 use Rattle.camera.specs.declared.Choice.{Choice}
 use Rattle.camera.specs.Curve.{curveX, curveY, xTable, yTable}
@@ -23,9 +23,9 @@ use Rattle.camera.specs.Ready.{flat, readySettings}
 use Rattle.camera.proofs.CurveLaws.{entries-length}
 use Rattle.camera.proofs.ReadyLaws.{less-two}
 
-tables-taken : eqb (length xTable) 65 && eqb (length yTable) 257 ≡ true
+tables-valid : eqb (length xTable) 65 && eqb (length yTable) 257 ≡ true
 unfolding xTable yTable
-tables-taken = rw (entries-length curveX 0 65, entries-length curveY 0 257)
+tables-valid = rw (entries-length curveX 0 65, entries-length curveY 0 257)
 
 -- a number from 0 to b lies in a range that begins below 0
 wide-between : (a b k : ℕ) → k ≤ b → between (negsuc a) (pos b) (pos k) ≡ true
@@ -40,17 +40,17 @@ same-end : (n : ℕ) → sameZ (pos n) (pos 0 +ℤ pos n) ≡ true
 same-end n = ap (sameZ (pos n)) (+ℤ-idl (pos n)) ∙ same-self n
 
 module _ (s : ℕ) (low : 2 ≤ s) (high : s ≤ 22) (priority overflow underflow : Choice) where
-  mode-taken : modeTaken (readySettings (pos s) priority overflow underflow .x .mode) ≡ true
-  unfolding modeTaken readySettings
-  mode-taken = ap (between (negsuc 5) (pos 25)) (less-two s low) ∙ wide-between 5 25 (s - 2) (omega arith)
+  mode-valid : modeValid (readySettings (pos s) priority overflow underflow .x .mode) ≡ true
+  unfolding modeValid readySettings
+  mode-valid = ap (between (negsuc 5) (pos 25)) (less-two s low) ∙ wide-between 5 25 (s - 2) (omega arith)
 
   pub accepted-but : (samples : List ℤ) (outputs : ℕ) (c : Counters)
       → runAnswer (readySettings (pos s) priority overflow underflow) xTable yTable samples outputs c
       ≡ inOrder (require OutputLength (eqb outputs (length samples)) ∷ require CounterLimit (leb (counterSum c + length samples) 4294967295) ∷ [])
-  unfolding runAnswer lutChecks readySettings flat endTaken shiftTaken between
+  unfolding runAnswer lutChecks readySettings flat endValid shiftValid between
   accepted-but samples outputs c =
-      inOrder-next 0 TableLength _ tables-taken
-      ∙ inOrder-next 0 XSelect _ mode-taken
+      inOrder-next 0 TableLength _ tables-valid
+      ∙ inOrder-next 0 XSelect _ mode-valid
       ∙ inOrder-next 0 XEnd _ (same-end (scaled 64 (pos s -ℤ pos 2)))
       ∙ inOrder-next 0 YSelect _ (wide-between 7 23 s (omega arith))
       ∙ inOrder-next 0 YEnd _ (same-end (scaled 256 (pos s)))

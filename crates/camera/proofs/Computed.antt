@@ -2,13 +2,13 @@
 use mathlib.Core.Path.{_≡_, refl}
 use lib.IntN.{pos, negsuc}
 use Rattle.refusal.specs.declared.Refusal.the-variants.{YSelect}
-use Rattle.refusal.specs.Checks.{requireAt, inOrder}
+use Rattle.refusal.specs.Checks.{requireAt, inOrder, result}
 use Rattle.lut.specs.declared.Table.the-variants.{X, Y}
 use Rattle.lut.specs.Numbers.{between, scaled}
 use Rattle.camera.specs.declared.Choice.the-variants.{Unnamed, Named}
-use Rattle.camera.specs.declared.Ready.the-variants.{Denied}
+use Rattle.camera.specs.declared.Ready.the-variants.{Refused as NotGiven}
 use Rattle.camera.specs.Curve.{rootUpTo, root, curveEntry}
-use Rattle.camera.specs.Ready.{chosen, flat, readySettings, readyChecks, settingOr, readyAnswer}
+use Rattle.camera.specs.Ready.{chosen, flat, readySettings, readyChecks, readyAnswer}
 
 pub record Computed : Type 0 where
   -- the greatest whole e with e² ≤ n: a square's own root, and the same below the next square
@@ -26,12 +26,12 @@ pub record Computed : Type 0 where
   pub unnamed : readySettings (pos 4) Unnamed (Named Y) Unnamed .priority ≡ X
   pub named : readySettings (pos 4) Unnamed (Named Y) Unnamed .overflow ≡ Y
   -- 14 outside 2 to 22
-  pub low : readyAnswer (pos 1) Unnamed Unnamed Unnamed ≡ Denied YSelect 0
-  pub high : readyAnswer (pos 23) Unnamed Unnamed Unnamed ≡ Denied YSelect 0
-  pub negative : readyAnswer (negsuc 3) Unnamed Unnamed Unnamed ≡ Denied YSelect 0
+  pub low : readyAnswer (pos 1) Unnamed Unnamed Unnamed ≡ NotGiven YSelect 0
+  pub high : readyAnswer (pos 23) Unnamed Unnamed Unnamed ≡ NotGiven YSelect 0
+  pub negative : readyAnswer (negsuc 3) Unnamed Unnamed Unnamed ≡ NotGiven YSelect 0
 
 pub computed : Computed
-unfolding requireAt inOrder between scaled rootUpTo root curveEntry chosen flat readySettings readyChecks settingOr readyAnswer
+unfolding requireAt inOrder between scaled rootUpTo root curveEntry chosen flat readySettings readyChecks result readyAnswer
 computed =
     record {
       none = refl;

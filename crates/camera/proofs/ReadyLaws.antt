@@ -1,8 +1,8 @@
 -- The ready-made settings as the code makes them, and its tests. Assumes nothing.
 --     chosen-unnamed, chosen-named       a priority bit, by the choice
 --     between-pos, pos-between           a select in its range, as a natural number
---     taken-between                      the code's tests of a select
---     less-two .. select-taken           the select less two; both selects are taken
+--     valid-between                      the code's tests of a select
+--     less-two .. select-valid           the select less two; both selects are valid
 --     end-fits, end-value                an end, as the code computes it
 --     answer-refused .. answer-setting   the check's two outcomes, and the tests that lead to them
 use Prim.Native.Nat.{ℕ, _-_, _*_, _^_, _%_, _≤_, zero-le}
@@ -20,15 +20,15 @@ use mir.Facts.{toZ-ofZ, toZ-pos}
 use borrow.Author.Tests.{le-leb}
 use Rattle.refusal.specs.declared.Answer.{Answer}
 use Rattle.refusal.specs.declared.Refusal.the-variants.{YSelect}
-use Rattle.refusal.proofs.CheckLaws.{inOrder-nil, inOrder-next, inOrder-stop}
+use Rattle.refusal.proofs.CheckLaws.{inOrder-nil, inOrder-next, inOrder-stop, result-given, result-refused}
 use Rattle.refusal.proofs.TestLaws.{and-left, and-right}
 use Rattle.integers.proofs.UpDown.{ud-inj, take-ud, leZ-true, ltZ-true, ltZ-false, le-leZ, lt-leZ}
 use Rattle.lut.specs.declared.Table.{Table}
 use Rattle.lut.specs.Numbers.{between, scaled}
 use Rattle.camera.specs.declared.Choice.{Choice}
 use Rattle.camera.specs.declared.Choice.the-variants.{Unnamed, Named}
-use Rattle.camera.specs.declared.Ready.the-variants.{Setting, Denied}
-use Rattle.camera.specs.Ready.{chosen, readySettings, readyChecks, settingOr, readyAnswer}
+use Rattle.camera.specs.declared.Ready.the-variants.{Setting, Refused as NotGiven}
+use Rattle.camera.specs.Ready.{chosen, readySettings, readyChecks, readyAnswer}
 
 -- ---- a priority bit
 
@@ -57,9 +57,9 @@ pub pos-between : (a b k : ℕ) → a ≤ k → k ≤ b → between (pos a) (pos
 unfolding between
 pos-between a b k h l = rw (le-leb a k h, le-leb k b l)
 
-pub taken-between : (a b z : ℤ) → ltZ z a ≡ false → ltZ b z ≡ false → between a b z ≡ true
+pub valid-between : (a b z : ℤ) → ltZ z a ≡ false → ltZ b z ≡ false → between a b z ≡ true
 unfolding between
-taken-between a b z h l = rw (le-leZ a z (omega (arith, ltZ-false z a h)), le-leZ z b (omega (arith, ltZ-false b z l)))
+valid-between a b z h l = rw (le-leZ a z (omega (arith, ltZ-false z a h)), le-leZ z b (omega (arith, ltZ-false b z l)))
 
 below-between : (a b z : ℤ) → ltZ z a ≡ true → between a b z ≡ false
 unfolding between
@@ -74,12 +74,12 @@ above-between a b z h l = rw (le-leZ a z (omega (arith, ltZ-false z a h)), lt-le
 pub less-two : (k : ℕ) → 2 ≤ k → pos k -ℤ pos 2 ≡ pos (k - 2)
 less-two k h = ud-inj (pos k -ℤ pos 2) (pos (k - 2)) (omega (arith, take-ud (pos k) (pos 2)))
 
-module _ {z : ℤ} (f : SFits w32 z) (taken : between (pos 2) (pos 22) z ≡ true) where
+module _ {z : ℤ} (f : SFits w32 z) (valid : between (pos 2) (pos 22) z ≡ true) where
   low-is : toZ w32 (ofZ w32 z) -ℤ pos 2 ≡ z -ℤ pos 2
   low-is = rw (toZ-ofZ f)
 
   low-pos : (k : ℕ) × (z -ℤ pos 2 ≡ pos k) × (k ≤ 20)
-  low-pos = let b = between-pos 2 22 z taken in
+  low-pos = let b = between-pos 2 22 z valid in
       (b .0 - 2, ap (λ (v : ℤ). v -ℤ pos 2) (b .1) ∙ less-two (b .0) (b .2), omega (arith, b .3))
 
   pub low-fits : SFits w32 (toZ w32 (ofZ w32 z) -ℤ pos 2)
@@ -88,11 +88,11 @@ module _ {z : ℤ} (f : SFits w32 z) (taken : between (pos 2) (pos 22) z ≡ tru
   pub low-value : toZ w32 (ofZ w32 (toZ w32 (ofZ w32 z) -ℤ pos 2)) ≡ z -ℤ pos 2
   low-value = toZ-ofZ low-fits ∙ low-is
 
-  pub low-taken : between (pos 0) (pos 22) (z -ℤ pos 2) ≡ true
-  low-taken = rw (low-pos .1) (pos-between 0 22 (low-pos .0) zero-le (omega (arith, low-pos .2)))
+  pub low-valid : between (pos 0) (pos 22) (z -ℤ pos 2) ≡ true
+  low-valid = rw (low-pos .1) (pos-between 0 22 (low-pos .0) zero-le (omega (arith, low-pos .2)))
 
-  pub select-taken : between (pos 0) (pos 22) z ≡ true
-  select-taken = let b = between-pos 2 22 z taken in rw (b .1) (pos-between 0 22 (b .0) zero-le (b .3))
+  pub select-valid : between (pos 0) (pos 22) z ≡ true
+  select-valid = let b = between-pos 2 22 z valid in rw (b .1) (pos-between 0 22 (b .0) zero-le (b .3))
 
 -- ---- an end
 
@@ -110,16 +110,16 @@ module _ (last k : ℕ) (h : last ≤ 256) (l : k ≤ 22) where
 -- ---- the checks
 
 module _ (s : ℤ) (priority overflow underflow : Choice) where
-  pub answer-refused : between (pos 2) (pos 22) s ≡ false → Denied YSelect 0 ≡ readyAnswer s priority overflow underflow
-  unfolding readyAnswer readyChecks settingOr
-  answer-refused e = ap (λ (a : Answer). settingOr a (readySettings s priority overflow underflow)) (sym (inOrder-stop 0 YSelect [] e))
+  pub answer-refused : between (pos 2) (pos 22) s ≡ false → NotGiven YSelect 0 ≡ readyAnswer s priority overflow underflow
+  unfolding readyAnswer readyChecks
+  answer-refused e = sym (result-refused _ _ (readySettings s priority overflow underflow) (inOrder-stop 0 YSelect [] e))
 
-  pub answer-below : ltZ s (pos 2) ≡ true → Denied YSelect 0 ≡ readyAnswer s priority overflow underflow
+  pub answer-below : ltZ s (pos 2) ≡ true → NotGiven YSelect 0 ≡ readyAnswer s priority overflow underflow
   answer-below h = answer-refused (below-between (pos 2) (pos 22) s h)
 
-  pub answer-above : ltZ s (pos 2) ≡ false → ltZ (pos 22) s ≡ true → Denied YSelect 0 ≡ readyAnswer s priority overflow underflow
+  pub answer-above : ltZ s (pos 2) ≡ false → ltZ (pos 22) s ≡ true → NotGiven YSelect 0 ≡ readyAnswer s priority overflow underflow
   answer-above h l = answer-refused (above-between (pos 2) (pos 22) s h l)
 
   pub answer-setting : between (pos 2) (pos 22) s ≡ true → Setting (readySettings s priority overflow underflow) ≡ readyAnswer s priority overflow underflow
-  unfolding readyAnswer readyChecks settingOr
-  answer-setting e = ap (λ (a : Answer). settingOr a (readySettings s priority overflow underflow)) (sym (inOrder-next 0 YSelect [] e ∙ inOrder-nil))
+  unfolding readyAnswer readyChecks
+  answer-setting e = sym (result-given _ _ (readySettings s priority overflow underflow) (inOrder-next 0 YSelect [] e ∙ inOrder-nil))

@@ -3,8 +3,7 @@ use mathlib.Core.List.{List, [], _∷_}
 use lib.IntN.{ℤ, pos, _-ℤ_}
 use Rattle.refusal.specs.declared.Refusal.the-variants.{YSelect}
 use Rattle.refusal.specs.declared.Answer.{Answer}
-use Rattle.refusal.specs.declared.Answer.the-variants.{Accepted, Refused}
-use Rattle.refusal.specs.Checks.{require, inOrder}
+use Rattle.refusal.specs.Checks.{require, inOrder, result}
 use Rattle.lut.specs.declared.XMode.the-variants.{Linear}
 use Rattle.lut.specs.declared.Slope.{Slope}
 use Rattle.lut.specs.declared.Table.{Table}
@@ -14,7 +13,7 @@ use Rattle.lut.specs.Numbers.{between, scaled}
 use Rattle.camera.specs.declared.Choice.{Choice}
 use Rattle.camera.specs.declared.Choice.the-variants.{Unnamed, Named}
 use Rattle.camera.specs.declared.Ready.{Ready}
-use Rattle.camera.specs.declared.Ready.the-variants.{Setting, Denied}
+use Rattle.camera.specs.declared.Ready.the-variants.{Setting, Refused as NotGiven}
 
 -- a priority bit: the table named (X is 0, Y is 1), or the given one where it is left unnamed
 unfoldable pub chosen : Table → Choice → Table
@@ -41,9 +40,5 @@ unfoldable pub readyChecks : ℤ → List Answer
 readyChecks s = require YSelect (between (pos 2) (pos 22) s) ∷ []
 
 -- the settings where the call is accepted, else its refusal
-unfoldable pub settingOr : Answer → LutSettings → Ready
-settingOr Accepted settings = Setting settings
-settingOr (Refused r at) settings = Denied r at
-
 unfoldable pub readyAnswer : ℤ → Choice → Choice → Choice → Ready
-readyAnswer s priority overflow underflow = settingOr (inOrder (readyChecks s)) (readySettings s priority overflow underflow)
+readyAnswer s priority overflow underflow = result Setting NotGiven (inOrder (readyChecks s)) (readySettings s priority overflow underflow)

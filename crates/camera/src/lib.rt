@@ -25,7 +25,7 @@ pub enum Choice {
 // The ready-made settings, or refused with the index at fault.
 pub enum Ready {
     Setting(LutSettings),
-    Denied(Refusal, usize),
+    Refused(Refusal, usize),
 }
 
 // The entries of the Y curve.
@@ -85,7 +85,7 @@ fn end_of(last: u32, select: i32) -> i32
     (last << (select as u32)) as i32
 }
 
-// The settings for a select that is taken.
+// The settings for a select that is valid.
 fn settings(select: i32, priority: Choice, overflow: Choice, underflow: Choice) -> LutSettings
     requires { ⌜ between (pos 2) (pos 22) select ≡ true ⌝ }
     ensures { λ r. ⌜ r ≡ readySettings select priority overflow underflow ⌝ }
@@ -120,10 +120,10 @@ pub fn ready_made(select: i32, priority: Choice, overflow: Choice, underflow: Ch
     ensures { λ r. ⌜ r ≡ readyAnswer select priority overflow underflow ⌝ }
 {
     if select < 2 {
-        return Ready::Denied(Refusal::YSelect, 0);
+        return Ready::Refused(Refusal::YSelect, 0);
     }
     if 22 < select {
-        return Ready::Denied(Refusal::YSelect, 0);
+        return Ready::Refused(Refusal::YSelect, 0);
     }
     Ready::Setting(settings(select, priority, overflow, underflow))
 }

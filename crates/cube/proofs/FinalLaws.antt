@@ -20,7 +20,7 @@ use Rattle.layout.specs.Boxes.{wholeBox}
 use Rattle.layout.specs.Contents.{packed, edited, boxElements, unpacked}
 use Rattle.layout.specs.Calls.{packBuffer, unpackElements, writeBoxAnswer, writeBoxBuffer, readBoxAnswer, readBoxElements}
 use Rattle.layout.proofs.ContentLaws.{packed-by-edit}
-use Rattle.layout.proofs.Taken.{Taken}
+use Rattle.layout.proofs.Valid.{Valid}
 use Rattle.layout.proofs.Formulas.{padding-exactly}
 use Rattle.layout.proofs.CallLaws.{admitted, write-admitted, pack-whole, unpack-whole}
 use Rattle.cube.specs.Steps.{boxWritten}
@@ -48,7 +48,7 @@ module _ (q : CubeLayout) (box : ElementBox) (buf : List ℕ) (before : List ℤ
 -- ---- packing
 module _ (q : CubeLayout) (raw : List ℤ) (before : List ℕ) where
   -- where the channels fill their atoms there is no padding
-  no-padding : Taken q → q .channels * sizeOf q % 32 ≡ 0 → (p : ℕ) → owner q p ≡ padding → ⊥
+  no-padding : Valid q → q .channels * sizeOf q % 32 ≡ 0 → (p : ℕ) → owner q p ≡ padding → ⊥
   unfolding surfaces
   no-padding ok e p o = let x = padding-exactly q ok p .0 o in omega (arith, x .atom .surface-lt, x .atom .byte-lt, x .past)
 

@@ -18,8 +18,8 @@ use Rattle.layout.specs.Geometry.{sizeOf, elementPosition, cubeExtent}
 use Rattle.layout.specs.Boxes.{wholeBox}
 use Rattle.layout.specs.Owners.{padding, outside, owner}
 use Rattle.layout.specs.Contents.{packed, edited}
-use Rattle.layout.proofs.Taken.{Taken}
-use Rattle.layout.proofs.BoxLaws.{BoxTaken, InBox, whole-taken}
+use Rattle.layout.proofs.Valid.{Valid}
+use Rattle.layout.proofs.BoxLaws.{BoxValid, InBox, whole-valid}
 use Rattle.layout.proofs.ContentLaws.{edited-element, edited-reached, packed-length, packed-outside, packed-padding, packed-by-edit}
 use Rattle.layout.proofs.Formulas.{PaddingByte, padding-exactly}
 use Rattle.cube.specs.Steps.{runIndex, runPosition, boxWritten}
@@ -45,12 +45,12 @@ pub record Goal (q : CubeLayout) (box : ElementBox) (pad : Bool) (xs : List ℤ)
   pub zero : pad ≡ true → (p : ℕ) → p < length before → owner q p ≡ padding → getD goal p 0 ≡ 0
   pub only : (after : List ℕ) → Toward 0 goal before after → ((c k : ℕ) → c < box .channels → k < box .rows → Reached q box pad goal after c k) → after ≡ goal
 
-module _ (q : CubeLayout) (ok : Taken q) (box : ElementBox) (area : BoxTaken q box) (xs : List ℤ) (before : List ℕ) (room : q .start + cubeExtent q ≤ length before) where
+module _ (q : CubeLayout) (ok : Valid q) (box : ElementBox) (inside : BoxValid q box) (xs : List ℤ) (before : List ℕ) (room : q .start + cubeExtent q ≤ length before) where
   edited-held : (c k i b : ℕ) → c < box .channels → k < box .rows → i < box .columns → b < sizeOf q
       → byteOf (getD xs (runIndex box c k + i) (pos 0)) b ≡ getD (edited q box xs before) (runPosition q box c k + 32 * i + b) 0
   edited-held c k i b hc hk hi hb =
-      let cube = run-cube q ok box area c k i hc hk hi in
-      let bound : elementPosition q (box .channel + c) (box .row + k) (box .column + i) + b < length before = omega (arith, run-room q ok box area (length before) room c k i hc hk hi, run-position q box c k i) in
+      let cube = run-cube q ok box inside c k i hc hk hi in
+      let bound : elementPosition q (box .channel + c) (box .row + k) (box .column + i) + b < length before = omega (arith, run-room q ok box inside (length before) room c k i hc hk hi, run-position q box c k i) in
       ap (λ (m : ℕ). byteOf (getD xs m (pos 0)) b) (sym (run-index box c k i hc hk hi))
       ∙ sym (edited-element q box xs before ok (box .channel + c) (box .row + k) (box .column + i) b cube (run-in box c k i hc hk hi) hb bound)
       ∙ ap (λ (m : ℕ). getD (edited q box xs before) (m + b) 0) (run-position q box c k i)
@@ -85,7 +85,7 @@ module _ (q : CubeLayout) (ok : Taken q) (box : ElementBox) (area : BoxTaken q b
       differ : false ≡ true → ⊥
       differ t = let z : _≡_ {A = ℕ} 0 1 = cc in omega arith
 
-module _ (q : CubeLayout) (ok : Taken q) (xs : List ℤ) (before : List ℕ) (room : q .start + cubeExtent q ≤ length before) where
+module _ (q : CubeLayout) (ok : Valid q) (xs : List ℤ) (before : List ℕ) (room : q .start + cubeExtent q ≤ length before) where
   goal : List ℕ
   goal = packed q xs before
 
@@ -107,7 +107,7 @@ module _ (q : CubeLayout) (ok : Taken q) (xs : List ℤ) (before : List ℕ) (ro
       let by = packed-by-edit q ok xs before after long gaps pads in
       edited-reached q (wholeBox q) xs after ok after (toward-refl 0 (edited q (wholeBox q) xs after) after)
       (λ c h w b i hb.
-      there q ok (wholeBox q) (whole-taken q ok) xs before room true (packed q xs before) after all c h w b i hb ∙ ap (λ (l : List ℕ). getD l (elementPosition q c h w + b) 0) (sym by))
+      there q ok (wholeBox q) (whole-valid q ok) xs before room true (packed q xs before) after all c h w b i hb ∙ ap (λ (l : List ℕ). getD l (elementPosition q c h w + b) 0) (sym by))
       ∙ by
 
   packed-goal : Goal q (wholeBox q) true xs before (packed q xs before)
@@ -115,15 +115,15 @@ module _ (q : CubeLayout) (ok : Taken q) (xs : List ℤ) (before : List ℕ) (ro
   packed-goal =
       record {
         held = λ c k i b hc hk hi hb.
-            edited-held q ok (wholeBox q) (whole-taken q ok) xs (packed q xs before) (subst (λ (n : ℕ). q .start + cubeExtent q ≤ n) (sym (packed-length q xs before)) room) c k i b hc hk hi hb
+            edited-held q ok (wholeBox q) (whole-valid q ok) xs (packed q xs before) (subst (λ (n : ℕ). q .start + cubeExtent q ≤ n) (sym (packed-length q xs before)) room) c k i b hc hk hi hb
             ∙ ap (λ (l : List ℕ). getD l (runPosition q (wholeBox q) c k + 32 * i + b) 0) again;
         whole = λ t. refl;
         zero = λ t p h e. packed-padding q xs before p h e;
         only = packed-only;
       }
 
-pub written-goal : (q : CubeLayout) → Taken q → (box : ElementBox) → BoxTaken q box → (pad : Bool) → (pad ≡ true → box ≡ wholeBox q) → (xs : List ℤ) (before : List ℕ)
+pub written-goal : (q : CubeLayout) → Valid q → (box : ElementBox) → BoxValid q box → (pad : Bool) → (pad ≡ true → box ≡ wholeBox q) → (xs : List ℤ) (before : List ℕ)
     → q .start + cubeExtent q ≤ length before → Goal q box pad xs before (boxWritten q box pad xs before)
 unfolding boxWritten
-written-goal q ok box area false w xs before room = edited-goal q ok box area xs before room
-written-goal q ok box area true w xs before room = subst⁻¹ (λ (b : ElementBox). Goal q b true xs before (packed q xs before)) (w refl) (packed-goal q ok xs before room)
+written-goal q ok box inside false w xs before room = edited-goal q ok box inside xs before room
+written-goal q ok box inside true w xs before room = subst⁻¹ (λ (b : ElementBox). Goal q b true xs before (packed q xs before)) (w refl) (packed-goal q ok xs before room)

@@ -21,9 +21,9 @@ use Rattle.layout.specs.declared.CubeLayout.{CubeLayout}
 use Rattle.layout.specs.declared.ElementBox.{ElementBox}
 use Rattle.layout.specs.Geometry.{sizeOf, cubeExtent}
 use Rattle.layout.specs.Boxes.{boxIndex, boxCount, channelAt, rowAt, columnAt}
-use Rattle.layout.specs.Contents.{storedElement, boxElements}
-use Rattle.layout.proofs.Taken.{Taken}
-use Rattle.layout.proofs.BoxLaws.{BoxTaken, index-channel, index-row, index-column, at-in, boxIndex-at}
+use Rattle.layout.specs.Contents.{readElement, boxElements}
+use Rattle.layout.proofs.Valid.{Valid}
+use Rattle.layout.proofs.BoxLaws.{BoxValid, index-channel, index-row, index-column, at-in, boxIndex-at}
 use Rattle.cube.specs.Steps.{runIndex, runPosition, AtomEnd, rowBlock}
 use Rattle.cube.proofs.RunLaws.{run-in, run-index, run-position, run-index-lt}
 use Rattle.cube.proofs.RowLaws.{row-index, row-position, row-fits, row-apart}
@@ -37,7 +37,7 @@ read-keep box goal near c k r i hi = reached-kept (pos 0) goal near (runIndex bo
 
 module _ (q : CubeLayout) (box : ElementBox) (buf : List ℕ) where
   at-index : ℕ → ℤ
-  at-index i = storedElement q buf (channelAt box i) (rowAt box i) (columnAt box i)
+  at-index i = readElement q buf (channelAt box i) (rowAt box i) (columnAt box i)
 
   goal-at : (i : ℕ) → i < boxCount box → getD (boxElements q box buf) i (pos 0) ≡ at-index i
   unfolding boxElements at-index
@@ -45,7 +45,7 @@ module _ (q : CubeLayout) (box : ElementBox) (buf : List ℕ) where
 
   module _ (n r i : ℕ) (hn : n < box .channels) (hr : r < box .rows) (hi : i < box .columns) where
     run-element : at-index (runIndex box n r + i) ≡ elementAt (sizeOf q) buf (runPosition q box n r + 32 * i)
-    unfolding at-index storedElement
+    unfolding at-index readElement
     run-element =
         let c = box .channel + n in
         let h = box .row + r in
@@ -53,9 +53,9 @@ module _ (q : CubeLayout) (box : ElementBox) (buf : List ℕ) where
         let inb = run-in box n r i hn hr hi in
         let index = run-index box n r i hn hr hi in
         ap at-index (sym index)
-        ∙ ap (λ (x : ℕ). storedElement q buf x (rowAt box (boxIndex box c h w)) (columnAt box (boxIndex box c h w))) (index-channel box c h w inb)
-        ∙ ap (λ (x : ℕ). storedElement q buf c x (columnAt box (boxIndex box c h w))) (index-row box c h w inb)
-        ∙ ap (λ (x : ℕ). storedElement q buf c h x) (index-column box c h w inb)
+        ∙ ap (λ (x : ℕ). readElement q buf x (rowAt box (boxIndex box c h w)) (columnAt box (boxIndex box c h w))) (index-channel box c h w inb)
+        ∙ ap (λ (x : ℕ). readElement q buf c x (columnAt box (boxIndex box c h w))) (index-row box c h w inb)
+        ∙ ap (λ (x : ℕ). readElement q buf c h x) (index-column box c h w inb)
         ∙ ap (λ (x : ℕ). elementAt (sizeOf q) buf x) (run-position q box n r i)
 
     run-holds : elementAt (sizeOf q) buf (runPosition q box n r + 32 * i) ≡ getD (boxElements q box buf) (runIndex box n r + i) (pos 0)
@@ -63,10 +63,10 @@ module _ (q : CubeLayout) (box : ElementBox) (buf : List ℕ) where
 
   -- ---- one row
 
-  module _ (ok : Taken q) (area : BoxTaken q box) (room : q .start + cubeExtent q ≤ length buf) (n m r : ℕ) (end : AtomEnd (sizeOf q) (box .channel) (box .channels) n m) (hr : r < box .rows)
+  module _ (ok : Valid q) (inside : BoxValid q box) (room : q .start + cubeExtent q ≤ length buf) (n m r : ℕ) (end : AtomEnd (sizeOf q) (box .channel) (box .channels) n m) (hr : r < box .rows)
       (l : List ℤ) (count : length l ≡ boxCount box) where
     fits : BlockFits (rowBlock q box n m r) (length l) (length buf)
-    fits = row-fits q box n m r end ok area hr (length l) (length buf) count room
+    fits = row-fits q box n m r end ok inside hr (length l) (length buf) count room
 
     same : (k i : ℕ) → k < m - n → i < box .columns
         → elementAt (sizeOf q) buf (runPosition q box n r + 32 * i + k * sizeOf q) ≡ getD (boxElements q box buf) (runIndex box n r + box .rows * box .columns * k + i) (pos 0)
@@ -77,7 +77,7 @@ module _ (q : CubeLayout) (box : ElementBox) (buf : List ℕ) where
         ∙ ap (λ (x : ℕ). getD (boxElements q box buf) x (pos 0)) index
 
     pub read-toward : Toward (pos 0) (boxElements q box buf) l (blockRead (rowBlock q box n m r) buf l)
-    read-toward = block-read-toward (rowBlock q box n m r) buf (boxElements q box buf) l fits (row-apart q box n m r end ok area hr) same
+    read-toward = block-read-toward (rowBlock q box n m r) buf (boxElements q box buf) l fits (row-apart q box n m r end ok inside hr) same
 
     pub read-reached : (c : ℕ) → n ≤ c → c < m → RowRead box (boxElements q box buf) (blockRead (rowBlock q box n m r) buf l) c r
     read-reached c low high i hi =
@@ -85,23 +85,23 @@ module _ (q : CubeLayout) (box : ElementBox) (buf : List ℕ) where
         let index : runIndex box n r + box .rows * box .columns * k + i ≡ runIndex box c r + i =
         omega (arith, row-index q box n m r end k i, mul-comm k (box .rows * box .columns), ap (λ (x : ℕ). runIndex box x r) (behind c low)) in
         subst (λ (x : ℕ). getD (blockRead (rowBlock q box n m r) buf l) x (pos 0) ≡ getD (boxElements q box buf) x (pos 0)) index
-        (block-read-reached (rowBlock q box n m r) buf (boxElements q box buf) l fits (row-apart q box n m r end ok area hr) same k i (omega arith) hi)
+        (block-read-reached (rowBlock q box n m r) buf (boxElements q box buf) l fits (row-apart q box n m r end ok inside hr) same k i (omega arith) hi)
       where
         behind : (c : ℕ) → n ≤ c → n + (c - n) ≡ c
         behind c low = omega arith
 
   -- ---- all rows
 
-  module _ (area : BoxTaken q box) (after : List ℤ) (count : length after ≡ boxCount box)
+  module _ (inside : BoxValid q box) (after : List ℤ) (count : length after ≡ boxCount box)
       (all : (c k : ℕ) → c < box .channels → k < box .rows → RowRead box (boxElements q box buf) after c k) where
     -- each index is one of a run's
     there : (j : ℕ) → j < boxCount box → getD after j (pos 0) ≡ getD (boxElements q box buf) j (pos 0)
     there j hj =
-        let i = at-in box j hj (area .rows .some) (area .columns .some) in
+        let i = at-in box j hj (inside .rows .some) (inside .columns .some) in
         let n = channelAt box j - box .channel in
         let r = rowAt box j - box .row in
         let k = columnAt box j - box .column in
-        let index : runIndex box n r + k ≡ j = unfold runIndex boxIndex in boxIndex-at box j hj (area .rows .some) (area .columns .some) in
+        let index : runIndex box n r + k ≡ j = unfold runIndex boxIndex in boxIndex-at box j hj (inside .rows .some) (inside .columns .some) in
         subst (λ (p : ℕ). getD after p (pos 0) ≡ getD (boxElements q box buf) p (pos 0)) index
         (all n r (omega (arith, i .channel-ge, i .channel-lt)) (omega (arith, i .row-ge, i .row-lt)) k (omega (arith, i .column-ge, i .column-lt)))
 

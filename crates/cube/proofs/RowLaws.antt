@@ -12,8 +12,8 @@ use Rattle.layout.specs.declared.CubeLayout.{CubeLayout}
 use Rattle.layout.specs.declared.ElementBox.{ElementBox}
 use Rattle.layout.specs.Geometry.{sizeOf, cubeExtent}
 use Rattle.layout.specs.Boxes.{boxCount}
-use Rattle.layout.proofs.Taken.{Taken}
-use Rattle.layout.proofs.BoxLaws.{BoxTaken}
+use Rattle.layout.proofs.Valid.{Valid}
+use Rattle.layout.proofs.BoxLaws.{BoxValid}
 use Rattle.cube.specs.Steps.{runIndex, runPosition, AtomEnd, rowBlock}
 use Rattle.cube.proofs.RunLaws.{run-room, run-index-end, run-index-more, run-position-more}
 
@@ -48,16 +48,16 @@ module _ (q : CubeLayout) (box : ElementBox) (n m r : ℕ) (end : AtomEnd (sizeO
   row-position k i h =
       omega (arith, run-position-more q box n r k (omega (arith, row-bytes k h, end .one, elementBytes-pos (q .precision))))
 
-  module _ (ok : Taken q) (area : BoxTaken q box) (hr : r < box .rows) where
+  module _ (ok : Valid q) (inside : BoxValid q box) (hr : r < box .rows) where
     pub row-apart : box .columns ≤ box .rows * box .columns
-    row-apart = omega (arith, mul-le-mul-right {m = 1} {n = box .rows} (box .columns) (area .rows .some))
+    row-apart = omega (arith, mul-le-mul-right {m = 1} {n = box .rows} (box .columns) (inside .rows .some))
 
     pub row-fits : (given len : ℕ) → given ≡ boxCount box → q .start + cubeExtent q ≤ len → BlockFits (rowBlock q box n m r) given len
     row-fits given len count room =
         let k = m - n - 1 in
         let last : k < m - n = omega (arith, end .some) in
         let hc : n + k < box .channels = omega (arith, end .some, end .le) in
-        let some = area .columns .some in
+        let some = inside .columns .some in
         let w = box .columns - 1 in
         let all : k * sizeOf q + sizeOf q ≡ (m - n) * sizeOf q = sym (suc-mul k (sizeOf q)) ∙ ap (λ (x : ℕ). x * sizeOf q) (omega (arith, last)) in
         record {
@@ -67,5 +67,5 @@ module _ (q : CubeLayout) (box : ElementBox) (n m r : ℕ) (end : AtomEnd (sizeO
           count-some = some;
           deep = omega (arith, end .one);
           elements = omega (arith, run-index-more box n r k, run-index-end box (n + k) r hc hr some, count);
-          bytes = omega (arith, row-position k w last, run-room q ok box area len room (n + k) r w hc hr (omega (arith, some)), all);
+          bytes = omega (arith, row-position k w last, run-room q ok box inside len room (n + k) r w hc hr (omega (arith, some)), all);
         }

@@ -14,8 +14,8 @@ use Rattle.layout.specs.declared.CubeLayout.{CubeLayout}
 use Rattle.layout.specs.declared.ElementBox.{ElementBox}
 use Rattle.layout.specs.Geometry.{sizeOf, elementPosition, cubeExtent}
 use Rattle.layout.specs.Boxes.{boxIndex, boxCount}
-use Rattle.layout.proofs.BoxLaws.{InBox, InCube, BoxTaken, in-cube, boxIndex-lt}
-use Rattle.layout.proofs.Taken.{Taken}
+use Rattle.layout.proofs.BoxLaws.{InBox, InCube, BoxValid, in-cube, boxIndex-lt}
+use Rattle.layout.proofs.Valid.{Valid}
 use Rattle.layout.proofs.Extents.{element-column, element-within, extent-lt}
 use Rattle.elements.proofs.ByteLaws.{elementBytes-le}
 use Rattle.cube.specs.Steps.{runIndex, runPosition}
@@ -48,9 +48,9 @@ run-index-end box n r hn hr hc =
     omega (arith, run-index-lt box n r (box .columns - 1) hn hr last)
 
 -- ---- a run's bytes are in the buffer
-module _ (q : CubeLayout) (ok : Taken q) (box : ElementBox) (area : BoxTaken q box) where
+module _ (q : CubeLayout) (ok : Valid q) (box : ElementBox) (inside : BoxValid q box) where
   pub run-cube : (n r i : ℕ) → n < box .channels → r < box .rows → i < box .columns → InCube q (box .channel + n) (box .row + r) (box .column + i)
-  run-cube n r i hn hr hi = in-cube q box (box .channel + n) (box .row + r) (box .column + i) area (run-in box n r i hn hr hi)
+  run-cube n r i hn hr hi = in-cube q box (box .channel + n) (box .row + r) (box .column + i) inside (run-in box n r i hn hr hi)
 
   module _ (len : ℕ) (room : q .start + cubeExtent q ≤ len) where
     pub run-room : (n r i : ℕ) → n < box .channels → r < box .rows → i < box .columns → runPosition q box n r + 32 * i + sizeOf q ≤ len
@@ -61,16 +61,16 @@ module _ (q : CubeLayout) (ok : Taken q) (box : ElementBox) (area : BoxTaken q b
 
     pub run-end : (n r : ℕ) → n < box .channels → r < box .rows → runPosition q box n r + 32 * box .columns + sizeOf q ≤ len + 32
     run-end n r hn hr =
-        let some = area .columns .some in
+        let some = inside .columns .some in
         let last : box .columns - 1 < box .columns = omega arith in
         omega (arith, run-room n r (box .columns - 1) hn hr last, some)
 
 -- an element's position, within 64 bits
-pub position-lt : (q : CubeLayout) → Taken q → q .line < 2 ^ 32 → q .surface < 2 ^ 32 → q .start < 2 ^ 32
+pub position-lt : (q : CubeLayout) → Valid q → q .line < 2 ^ 32 → q .surface < 2 ^ 32 → q .start < 2 ^ 32
     → (c h w : ℕ) → c < q .channels → h < q .height → w < q .width → elementPosition q c h w < 2 ^ 47
 position-lt q ok hl hs ht c h w hc hh hw = omega (arith, element-within q ok c h w hc hh hw, extent-lt q ok hl hs)
 
-pub channel-bytes : (q : CubeLayout) → Taken q → (c : ℕ) → c < q .channels → c * sizeOf q ≤ 16384
+pub channel-bytes : (q : CubeLayout) → Valid q → (c : ℕ) → c < q .channels → c * sizeOf q ≤ 16384
 channel-bytes q ok c hc = mul-le-mul {n₁ = c} {m₁ = sizeOf q} {n₂ = 8192} {m₂ = 2} (omega (arith, ok .channels-le)) (elementBytes-le (q .precision))
 
 -- ---- where the k-th channel after n begins

@@ -25,8 +25,8 @@ use Rattle.layout.specs.declared.CubeLayout.{CubeLayout}
 use Rattle.layout.specs.declared.ElementBox.{ElementBox}
 use Rattle.layout.specs.Geometry.{sizeOf, surfaces, elementPosition, atomPosition, cubeExtent}
 use Rattle.layout.specs.Boxes.{wholeBox, boxCount}
-use Rattle.layout.proofs.Taken.{Taken}
-use Rattle.layout.proofs.BoxLaws.{BoxTaken}
+use Rattle.layout.proofs.Valid.{Valid}
+use Rattle.layout.proofs.BoxLaws.{BoxValid}
 use Rattle.layout.proofs.Views.{element-surface}
 use Rattle.layout.proofs.Formulas.{AtomByte, PaddingByte, padding-exactly}
 use Rattle.layout.proofs.Extents.{atom-within}
@@ -34,7 +34,7 @@ use Rattle.cube.specs.Steps.{runIndex, runPosition, AtomEnd, rowBlock, r
 use Rattle.cube.proofs.RowLaws.{row-index, row-position, row-fits}
 use Rattle.cube.proofs.GoalLaws.{Goal, Reached}
 
-module _ (q : CubeLayout) (ok : Taken q) (box : ElementBox) (area : BoxTaken q box) (pad : Bool) (xs : List ℤ) (count : length xs ≡ boxCount box) (before goal : List ℕ)
+module _ (q : CubeLayout) (ok : Valid q) (box : ElementBox) (inside : BoxValid q box) (pad : Bool) (xs : List ℤ) (count : length xs ≡ boxCount box) (before goal : List ℕ)
     (room : q .start + cubeExtent q ≤ length before) (g : Goal q box pad xs before goal)
     (n m r : ℕ) (end : AtomEnd (sizeOf q) (box .channel) (box .channels) n m) (hr : r < box .rows) where
   hn : n < box .channels
@@ -51,7 +51,7 @@ module _ (q : CubeLayout) (ok : Taken q) (box : ElementBox) (area : BoxTaken q b
 
   module _ (l : List ℕ) (long : length l ≡ length before) where
     fits : BlockFits (rowBlock q box n m r) (length xs) (length l)
-    fits = row-fits q box n m r end ok area hr (length xs) (length l) count (subst (λ (x : ℕ). q .start + cubeExtent q ≤ x) (sym long) room)
+    fits = row-fits q box n m r end ok inside hr (length xs) (length l) count (subst (λ (x : ℕ). q .start + cubeExtent q ≤ x) (sym long) room)
 
     block-toward : Toward 0 goal l (blockWritten (rowBlock q box n m r) xs l)
     block-toward = block-written-toward (rowBlock q box n m r) xs goal l fits same

@@ -1,6 +1,6 @@
 // Feature cubes packed and read back, whole or a box at a time (scope paper, "Cells and cubes").
-mod place;
 mod read;
+mod runs;
 mod write;
 
 ghost use mathlib.Core.Path.{_≡_};
@@ -31,10 +31,10 @@ fn whole(layout: CubeLayout) -> ElementBox
 }
 
 // All checks of a call that writes a box: 1 to 4, 9, 6, 5, 7.
-fn judge(layout: CubeLayout, area: ElementBox, elements: &[i16], len: usize) -> Answer
-    ensures { λ r. ⌜ r ≡ writeBoxAnswer layout area (now (elements .entry)) len ⌝ }
+fn judge(layout: CubeLayout, b: ElementBox, elements: &[i16], len: usize) -> Answer
+    ensures { λ r. ⌜ r ≡ writeBoxAnswer layout b (now (elements .entry)) len ⌝ }
 {
-    let a = layout::admit(layout, area, elements.len(), len);
+    let a = layout::admit(layout, b, elements.len(), len);
     let Answer::Accepted = a else {
         return a;
     };
@@ -71,33 +71,28 @@ pub fn unpack(layout: CubeLayout, buffer: &[u8], elements: &mut [i16]) -> Answer
 }
 
 // Writes the elements of a box, in raw order over the box, and no other byte.
-pub fn write_box(
-    layout: CubeLayout,
-    area: ElementBox,
-    elements: &[i16],
-    buffer: &mut [u8],
-) -> Answer
-    ensures answered { λ r. ⌜ r ≡ writeBoxAnswer layout area (now (elements .entry)) (length (now (buffer .entry))) ⌝ }
-    ensures left { λ r. ⌜ now (buffer .exit) ≡ writeBoxBuffer layout area (now (elements .entry)) (now (buffer .entry)) ⌝ }
+pub fn write_box(layout: CubeLayout, b: ElementBox, elements: &[i16], buffer: &mut [u8]) -> Answer
+    ensures answered { λ r. ⌜ r ≡ writeBoxAnswer layout b (now (elements .entry)) (length (now (buffer .entry))) ⌝ }
+    ensures left { λ r. ⌜ now (buffer .exit) ≡ writeBoxBuffer layout b (now (elements .entry)) (now (buffer .entry)) ⌝ }
 {
-    let a = judge(layout, area, elements, buffer.len());
+    let a = judge(layout, b, elements, buffer.len());
     let Answer::Accepted = a else {
         return a;
     };
-    write::all(layout, area, false, elements, buffer);
+    write::all(layout, b, false, elements, buffer);
     Answer::Accepted
 }
 
 // Reads the elements of a box, in raw order over the box.
-pub fn read_box(layout: CubeLayout, area: ElementBox, buffer: &[u8], elements: &mut [i16]) -> Answer
-    ensures answered { λ r. ⌜ r ≡ readBoxAnswer layout area (length (now (elements .entry))) (length (now (buffer .entry))) ⌝ }
-    ensures left { λ r. ⌜ now (elements .exit) ≡ readBoxElements layout area (now (buffer .entry)) (now (elements .entry)) ⌝ }
+pub fn read_box(layout: CubeLayout, b: ElementBox, buffer: &[u8], elements: &mut [i16]) -> Answer
+    ensures answered { λ r. ⌜ r ≡ readBoxAnswer layout b (length (now (elements .entry))) (length (now (buffer .entry))) ⌝ }
+    ensures left { λ r. ⌜ now (elements .exit) ≡ readBoxElements layout b (now (buffer .entry)) (now (elements .entry)) ⌝ }
 {
-    let a = layout::admit(layout, area, elements.len(), buffer.len());
+    let a = layout::admit(layout, b, elements.len(), buffer.len());
     let Answer::Accepted = a else {
         return a;
     };
-    read::all(layout, area, buffer, elements);
+    read::all(layout, b, buffer, elements);
     Answer::Accepted
 }
 
@@ -114,7 +109,7 @@ pub fn position(layout: CubeLayout, channel: u32, row: u32, column: u32) -> Quan
         columns: 1,
     };
     match layout::check_box(layout, one) {
-        Answer::Refused(refusal, at) => Quantity::Denied(refusal, at),
-        Answer::Accepted => Quantity::Is(place::position_of(layout, channel, row, column)),
+        Answer::Refused(refusal, at) => Quantity::Refused(refusal, at),
+        Answer::Accepted => Quantity::Is(runs::position_of(layout, channel, row, column)),
     }
 }

@@ -5,25 +5,25 @@ ghost use Rattle.refusal.specs.declared.Answer.the-variants.{Accepted};
 ghost use Rattle.refusal.specs.Checks.{inOrder};
 ghost use Rattle.layout.specs.Rules.{admitChecks};
 ghost use Rattle.layout.specs.Contents.{boxElements};
-use crate::place;
+use crate::runs;
 use layout::CubeLayout;
 use layout::ElementBox;
 
 // All channels of the box, those of one atom after another, all rows of these before the next.
-pub(crate) fn all(layout: CubeLayout, area: ElementBox, buffer: &[u8], elements: &mut [i16])
-    requires { ⌜ inOrder (admitChecks layout area (length (now elements)) (length (now buffer))) ≡ Accepted ⌝ }
-    ensures { λ _. ⌜ now (elements .exit) ≡ boxElements layout area (now (buffer .entry)) ⌝ }
+pub(crate) fn all(layout: CubeLayout, b: ElementBox, buffer: &[u8], elements: &mut [i16])
+    requires { ⌜ inOrder (admitChecks layout b (length (now elements)) (length (now buffer))) ≡ Accepted ⌝ }
+    ensures { λ _. ⌜ now (elements .exit) ≡ boxElements layout b (now (buffer .entry)) ⌝ }
 {
     let e = elements::element_bytes(layout.precision);
-    let first = area.channel;
-    let channels = area.channels;
-    let rows = area.rows;
+    let first = b.channel;
+    let channels = b.channels;
+    let rows = b.rows;
     let mut n: u32 = 0;
     while n < channels {
-        let m = place::atom_end(e, first, channels, n);
+        let m = runs::atom_end(e, first, channels, n);
         let mut r: u32 = 0;
         while r < rows {
-            let block = place::row(layout, area, n, m, r);
+            let block = runs::row(layout, b, n, m, r);
             columns::read(block, buffer, elements);
             r += 1;
         }

@@ -7,7 +7,7 @@ ghost use Rattle.refusal.specs.Checks.{inOrder};
 ghost use Rattle.layout.specs.Boxes.{wholeBox};
 ghost use Rattle.layout.specs.Rules.{admitChecks};
 ghost use Rattle.cube.specs.Steps.{rowWritten, boxWritten};
-use crate::place;
+use crate::runs;
 use columns::ColumnBlock;
 use layout::CubeLayout;
 use layout::ElementBox;
@@ -24,27 +24,21 @@ fn row(block: ColumnBlock, clear: bool, elements: &[i16], buffer: &mut [u8])
 
 // All channels of the box, those of one atom after another, all rows of these before the next. With `pad` the box is the whole cube, and a row's
 // atoms of the last surface, which alone has padding, are cleared just before they are written.
-pub(crate) fn all(
-    layout: CubeLayout,
-    area: ElementBox,
-    pad: bool,
-    elements: &[i16],
-    buffer: &mut [u8],
-)
-    requires { ⌜ inOrder (admitChecks layout area (length (now elements)) (length (now buffer))) ≡ Accepted ⌝ }
-    requires { ⌜ (pad ≡ true → area ≡ wholeBox layout) ⌝ }
-    ensures { λ _. ⌜ now (buffer .exit) ≡ boxWritten layout area pad (now (elements .entry)) (now (buffer .entry)) ⌝ }
+pub(crate) fn all(layout: CubeLayout, b: ElementBox, pad: bool, elements: &[i16], buffer: &mut [u8])
+    requires { ⌜ inOrder (admitChecks layout b (length (now elements)) (length (now buffer))) ≡ Accepted ⌝ }
+    requires { ⌜ (pad ≡ true → b ≡ wholeBox layout) ⌝ }
+    ensures { λ _. ⌜ now (buffer .exit) ≡ boxWritten layout b pad (now (elements .entry)) (now (buffer .entry)) ⌝ }
 {
     let e = elements::element_bytes(layout.precision);
-    let first = area.channel;
-    let channels = area.channels;
-    let rows = area.rows;
+    let first = b.channel;
+    let channels = b.channels;
+    let rows = b.rows;
     let mut n: u32 = 0;
     while n < channels {
-        let m = place::atom_end(e, first, channels, n);
+        let m = runs::atom_end(e, first, channels, n);
         let mut r: u32 = 0;
         while r < rows {
-            let block = place::row(layout, area, n, m, r);
+            let block = runs::row(layout, b, n, m, r);
             row(block, pad & (m == channels), elements, buffer);
             r += 1;
         }

@@ -7,7 +7,7 @@ use Rattle.refusal.specs.declared.Refusal.the-variants.{Int8Range}
 use Rattle.refusal.specs.declared.Answer.the-variants.{Accepted, Refused}
 use Rattle.refusal.specs.Checks.{requireAt, inOrder}
 use Rattle.elements.specs.Bytes.{elementBytes, byteOf, wordAt, signed, elementAt}
-use Rattle.elements.specs.Values.{valueTaken, valueCheck, valueChecksFrom, valueChecks}
+use Rattle.elements.specs.Values.{valueValid, valueCheck, valueChecksFrom, valueChecks}
 
 pub record Computed : Type 0 where
   pub low : byteOf (negsuc 1) 0 ≡ 254
@@ -19,15 +19,15 @@ pub record Computed : Type 0 where
   pub one : elementBytes 0 ≡ 1
   pub two : elementBytes 2 ≡ 2
   -- int8 takes −128..127, int16 every element; the least index at fault is told
-  pub least : valueTaken 0 (negsuc 127) ≡ true
-  pub below : valueTaken 0 (negsuc 128) ≡ false
-  pub greatest : valueTaken 0 (pos 127) ≡ true
-  pub above : valueTaken 0 (pos 128) ≡ false
+  pub least : valueValid 0 (negsuc 127) ≡ true
+  pub below : valueValid 0 (negsuc 128) ≡ false
+  pub greatest : valueValid 0 (pos 127) ≡ true
+  pub above : valueValid 0 (pos 128) ≡ false
   pub wide : inOrder (valueChecks 1 (pos 0 ∷ pos 200 ∷ [])) ≡ Accepted
   pub first : inOrder (valueChecks 0 (pos 0 ∷ pos 200 ∷ negsuc 200 ∷ [])) ≡ Refused Int8Range 1
 
 pub computed : Computed
-unfolding requireAt inOrder elementBytes byteOf wordAt signed elementAt valueTaken valueCheck valueChecksFrom valueChecks
+unfolding requireAt inOrder elementBytes byteOf wordAt signed elementAt valueValid valueCheck valueChecksFrom valueChecks
 computed =
     record {
       low = refl;

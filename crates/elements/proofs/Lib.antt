@@ -8,7 +8,7 @@
 --     WordLaws    the unsigned number that bytes are
 --     SignLaws    signed numbers as the code computes them: the bits of a 16-bit number, and back
 --     OrderLaws   the order of signed numbers as a test, and the bounds of the lesser and the greater of two
---     ScanLaws    the code's tests of an element, and a pass over the first elements
+--     StepLaws    the code's tests of an element, and a pass over the first elements
 pub mod Computed
 pub mod ListLaws
 pub mod TabulateLaws
@@ -18,4 +18,4 @@ pub mod ValueLaws
 pub mod WordLaws
 pub mod SignLaws
 pub mod OrderLaws
-pub mod ScanLaws
+pub mod StepLaws

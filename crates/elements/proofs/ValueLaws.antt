@@ -1,8 +1,8 @@
 -- Laws of the check of values (specs/Values.antt). By induction on the list of elements. Assumes nothing.
---     valueTaken-fits                          an element that is taken is a number of the precision's bytes
---     valueTaken-other, valueChecks-other      a precision other than int8 takes every element
---     Taken                                    each of the first n elements is taken
---     valueChecks-taken, valueChecks-least     what an accepted list, and a refused one, say of its elements
+--     valueValid-fits                          an element that is valid is a number of the precision's bytes
+--     valueValid-other, valueChecks-other      a precision other than int8 takes every element
+--     Valid                                    each of the first n elements is valid
+--     valueChecks-valid, valueChecks-least     what an accepted list, and a refused one, say of its elements
 --     valueChecks-all, valueChecks-first       and back
 use Prim.Native.Nat.{ℕ, zero, suc, _+_, _/_, _^_, _<_, zero-le, suc-le-suc}
 use mathlib.Core.Path.{_≡_, refl, ap, _∙_, subst}
@@ -22,7 +22,7 @@ use Rattle.refusal.specs.declared.Answer.the-variants.{Accepted, Refused}
 use Rattle.refusal.specs.Checks.{inOrder}
 use Rattle.refusal.proofs.CheckLaws.{inOrder-nil, inOrder-next, inOrder-stop, inOrder-held, inOrder-rest}
 use Rattle.elements.specs.Bytes.{elementBytes}
-use Rattle.elements.specs.Values.{valueTaken, valueCheck, valueChecksFrom, valueChecks}
+use Rattle.elements.specs.Values.{valueValid, valueCheck, valueChecksFrom, valueChecks}
 
 pub and-true : (a b : Bool) → a && b ≡ true → (a ≡ true) × (b ≡ true)
 and-true true b e = (refl, e)
@@ -30,41 +30,41 @@ and-true false b e = (e, cc)
 
 -- ---- one element
 
-taken-mag : (z : ℤ) → valueTaken 0 z ≡ true → mag z < 128
-unfolding valueTaken
-taken-mag (pos n) e = omega (arith, leb-true n 127 e)
-taken-mag (negsuc n) e = omega (arith, leb-true n 127 (and-true _ _ e .0))
+valid-mag : (z : ℤ) → valueValid 0 z ≡ true → mag z < 128
+unfolding valueValid
+valid-mag (pos n) e = omega (arith, leb-true n 127 e)
+valid-mag (negsuc n) e = omega (arith, leb-true n 127 (and-true _ _ e .0))
 
-pub valueTaken-fits : (p : ℕ) (z : ℤ) → valueTaken p z ≡ true → mag z < 32768 → mag z < 256 ^ elementBytes p / 2
+pub valueValid-fits : (p : ℕ) (z : ℤ) → valueValid p z ≡ true → mag z < 32768 → mag z < 256 ^ elementBytes p / 2
 unfolding elementBytes
-valueTaken-fits zero z e m = taken-mag z e
-valueTaken-fits (suc p) z e m = m
+valueValid-fits zero z e m = valid-mag z e
+valueValid-fits (suc p) z e m = m
 
-pub valueTaken-other : (p : ℕ) (z : ℤ) → (p ≡ 0 → ⊥) → valueTaken p z ≡ true
-unfolding valueTaken
-valueTaken-other zero z f = absurd (f refl)
-valueTaken-other (suc p) z f = refl
+pub valueValid-other : (p : ℕ) (z : ℤ) → (p ≡ 0 → ⊥) → valueValid p z ≡ true
+unfolding valueValid
+valueValid-other zero z f = absurd (f refl)
+valueValid-other (suc p) z f = refl
 
 -- ---- a list of elements, the first at index k
 
--- each of the first n elements is taken
-abbrev pub Taken : ℕ → List ℤ → ℕ → Type 0
-Taken p zs n = (j : ℕ) → j < n → valueTaken p (getD zs j (pos 0)) ≡ true
+-- each of the first n elements is valid
+abbrev pub Valid : ℕ → List ℤ → ℕ → Type 0
+Valid p zs n = (j : ℕ) → j < n → valueValid p (getD zs j (pos 0)) ≡ true
 
-taken-from : (p k : ℕ) (zs : List ℤ) → inOrder (valueChecksFrom p k zs) ≡ Accepted → Taken p zs (length zs)
+valid-from : (p k : ℕ) (zs : List ℤ) → inOrder (valueChecksFrom p k zs) ≡ Accepted → Valid p zs (length zs)
 unfolding valueChecksFrom valueCheck
-taken-from p k [] e i h = absurd (not-suc-le-zero h)
-taken-from p k (z ∷ zs) e zero h = inOrder-held k Int8Range (valueTaken p z) _ e
-taken-from p k (z ∷ zs) e (suc i) h = taken-from p (suc k) zs (inOrder-rest k Int8Range (valueTaken p z) _ e) i (le-of-suc-le-suc h)
+valid-from p k [] e i h = absurd (not-suc-le-zero h)
+valid-from p k (z ∷ zs) e zero h = inOrder-held k Int8Range (valueValid p z) _ e
+valid-from p k (z ∷ zs) e (suc i) h = valid-from p (suc k) zs (inOrder-rest k Int8Range (valueValid p z) _ e) i (le-of-suc-le-suc h)
 
-all-from : (p k : ℕ) (zs : List ℤ) → Taken p zs (length zs) → inOrder (valueChecksFrom p k zs) ≡ Accepted
+all-from : (p k : ℕ) (zs : List ℤ) → Valid p zs (length zs) → inOrder (valueChecksFrom p k zs) ≡ Accepted
 unfolding valueChecksFrom valueCheck
 all-from p k [] h = inOrder-nil
 all-from p k (z ∷ zs) h =
     inOrder-next k Int8Range _ (h zero (suc-le-suc zero-le)) ∙ all-from p (suc k) zs (λ i b. h (suc i) (suc-le-suc b))
 
 first-from : (p k : ℕ) (zs : List ℤ) (i : ℕ)
-    → i < length zs → Taken p zs i → valueTaken p (getD zs i (pos 0)) ≡ false → inOrder (valueChecksFrom p k zs) ≡ Refused Int8Range (k + i)
+    → i < length zs → Valid p zs i → valueValid p (getD zs i (pos 0)) ≡ false → inOrder (valueChecksFrom p k zs) ≡ Refused Int8Range (k + i)
 unfolding valueChecksFrom valueCheck
 first-from p k [] i h before e = absurd (not-suc-le-zero h)
 first-from p k (z ∷ zs) zero h before e = inOrder-stop k Int8Range _ e ∙ ap (λ (n : ℕ). Refused Int8Range n) (omega arith)
@@ -75,19 +75,19 @@ first-from p k (z ∷ zs) (suc i) h before e =
 
 -- element i is the first at fault
 abbrev Faulty : ℕ → List ℤ → ℕ → Type 0
-Faulty p zs i = (i < length zs) × (valueTaken p (getD zs i (pos 0)) ≡ false) × Taken p zs i
+Faulty p zs i = (i < length zs) × (valueValid p (getD zs i (pos 0)) ≡ false) × Valid p zs i
 
--- every element is taken, or there is a first at fault
-look : (p : ℕ) (zs : List ℤ) → Taken p zs (length zs) ⊎ ((i : ℕ) × Faulty p zs i)
+-- every element is valid, or there is a first at fault
+look : (p : ℕ) (zs : List ℤ) → Valid p zs (length zs) ⊎ ((i : ℕ) × Faulty p zs i)
 look p [] = inl (λ i h. absurd (not-suc-le-zero h))
-look p (z ∷ zs) = here (valueTaken p z) refl (look p zs)
+look p (z ∷ zs) = here (valueValid p z) refl (look p zs)
   where
-    more : valueTaken p z ≡ true → (n : ℕ) → Taken p zs n → Taken p (z ∷ zs) (suc n)
+    more : valueValid p z ≡ true → (n : ℕ) → Valid p zs n → Valid p (z ∷ zs) (suc n)
     more e n h zero b = e
     more e n h (suc i) b = h i (le-of-suc-le-suc b)
 
-    here : (t : Bool) → valueTaken p z ≡ t → Taken p zs (length zs) ⊎ ((i : ℕ) × Faulty p zs i)
-        → Taken p (z ∷ zs) (length (z ∷ zs)) ⊎ ((i : ℕ) × Faulty p (z ∷ zs) i)
+    here : (t : Bool) → valueValid p z ≡ t → Valid p zs (length zs) ⊎ ((i : ℕ) × Faulty p zs i)
+        → Valid p (z ∷ zs) (length (z ∷ zs)) ⊎ ((i : ℕ) × Faulty p (z ∷ zs) i)
     here false e rest = inr (zero, (suc-le-suc zero-le, e, λ j b. absurd (not-suc-le-zero b)))
     here true e (inl all) = inl (more e (length zs) all)
     here true e (inr (i, w)) = inr (suc i, (suc-le-suc (w .0), w .1, more e i (w .2)))
@@ -98,7 +98,7 @@ both-ways e f = let z : _≡_ {A = ℕ} 0 1 = cc in absurd (omega arith)
 
 -- an answer has one refusal
 same-fault : (p : ℕ) (zs : List ℤ) (r : Refusal) (i m : ℕ) → Faulty p zs m → {a : Answer} → a ≡ Refused Int8Range m → a ≡ Refused r i
-    → (i < length zs) × (r ≡ Int8Range) × (valueTaken p (getD zs i (pos 0)) ≡ false) × Taken p zs i
+    → (i < length zs) × (r ≡ Int8Range) × (valueValid p (getD zs i (pos 0)) ≡ false) × Valid p zs i
 same-fault p zs r i m w e f =
     let same : m ≡ i = cc in
     let v : Faulty p zs i = subst (λ (n : ℕ). Faulty p zs n) same w in
@@ -107,21 +107,21 @@ same-fault p zs r i m w e f =
 -- ---- the check of all elements
 
 module _ (p : ℕ) (zs : List ℤ) where
-  pub valueChecks-taken : inOrder (valueChecks p zs) ≡ Accepted → Taken p zs (length zs)
+  pub valueChecks-valid : inOrder (valueChecks p zs) ≡ Accepted → Valid p zs (length zs)
   unfolding valueChecks
-  valueChecks-taken e = taken-from p zero zs e
+  valueChecks-valid e = valid-from p zero zs e
 
-  pub valueChecks-all : Taken p zs (length zs) → inOrder (valueChecks p zs) ≡ Accepted
+  pub valueChecks-all : Valid p zs (length zs) → inOrder (valueChecks p zs) ≡ Accepted
   unfolding valueChecks
   valueChecks-all h = all-from p zero zs h
 
   pub valueChecks-first : (i : ℕ)
-      → i < length zs → Taken p zs i → valueTaken p (getD zs i (pos 0)) ≡ false → inOrder (valueChecks p zs) ≡ Refused Int8Range i
+      → i < length zs → Valid p zs i → valueValid p (getD zs i (pos 0)) ≡ false → inOrder (valueChecks p zs) ≡ Refused Int8Range i
   unfolding valueChecks
   valueChecks-first i h before e = first-from p zero zs i h before e ∙ ap (λ (n : ℕ). Refused Int8Range n) (omega arith)
 
   pub valueChecks-least : (r : Refusal) (i : ℕ) → inOrder (valueChecks p zs) ≡ Refused r i
-      → (i < length zs) × (r ≡ Int8Range) × (valueTaken p (getD zs i (pos 0)) ≡ false) × Taken p zs i
+      → (i < length zs) × (r ≡ Int8Range) × (valueValid p (getD zs i (pos 0)) ≡ false) × Valid p zs i
   valueChecks-least r i e =
       ⊎-elim
       (λ all. both-ways (valueChecks-all all) e)
@@ -129,4 +129,4 @@ module _ (p : ℕ) (zs : List ℤ) where
       (look p zs)
 
   pub valueChecks-other : (p ≡ 0 → ⊥) → inOrder (valueChecks p zs) ≡ Accepted
-  valueChecks-other f = valueChecks-all (λ i h. valueTaken-other p _ f)
+  valueChecks-other f = valueChecks-all (λ i h. valueValid-other p _ f)

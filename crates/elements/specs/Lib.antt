@@ -1,4 +1,4 @@
 pub mod Bytes
 pub mod Lists
 pub mod Values
-pub mod Scan
+pub mod Steps

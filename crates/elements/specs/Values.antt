@@ -10,13 +10,13 @@ use Rattle.refusal.specs.declared.Answer.{Answer}
 use Rattle.refusal.specs.Checks.{requireAt}
 
 -- an int8 element lies in -128..127 (`negsuc 127` is -128); the other precisions take every 16-bit element
-unfoldable pub valueTaken : ℕ → ℤ → Bool
-valueTaken zero z = leZ (negsuc 127) z && leZ z (pos 127)
-valueTaken (suc p) z = true
+unfoldable pub valueValid : ℕ → ℤ → Bool
+valueValid zero z = leZ (negsuc 127) z && leZ z (pos 127)
+valueValid (suc p) z = true
 
 -- the check of the element at index i
 unfoldable pub valueCheck : ℕ → ℕ → ℤ → Answer
-valueCheck p i z = requireAt i Int8Range (valueTaken p z)
+valueCheck p i z = requireAt i Int8Range (valueValid p z)
 
 -- the checks of all elements in order, the first at index i
 unfoldable pub valueChecksFrom : ℕ → ℕ → List ℤ → List Answer

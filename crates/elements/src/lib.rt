@@ -8,7 +8,7 @@ ghost use lib.ListN.{length};
 ghost use Rattle.refusal.specs.Checks.{inOrder};
 ghost use Rattle.elements.specs.Bytes.{elementBytes, byteOf, signed};
 ghost use Rattle.elements.specs.Values.{valueChecks};
-ghost use Rattle.elements.specs.Scan.{allTaken};
+ghost use Rattle.elements.specs.Steps.{allValid};
 use refusal::Answer;
 use refusal::Refusal;
 
@@ -86,7 +86,7 @@ fn greater(a: i16, b: i16) -> i16
 
 // Whether every element lies in -128..127: the least and the greatest of them and 0 do. One pass without an early exit.
 fn all_int8(elements: &[i16]) -> bool
-    ensures { λ r. ⌜ r ≡ allTaken 0 (now (elements .entry)) (length (now (elements .entry))) ⌝ }
+    ensures { λ r. ⌜ r ≡ allValid 0 (now (elements .entry)) (length (now (elements .entry))) ⌝ }
 {
     let mut low: i16 = 0;
     let mut high: i16 = 0;
@@ -102,7 +102,7 @@ fn all_int8(elements: &[i16]) -> bool
 
 // The index of the first element outside -128..127, of which there is one.
 fn first_outside(elements: &[i16]) -> usize
-    requires { ⌜ allTaken 0 (now elements) (length (now elements)) ≡ false ⌝ }
+    requires { ⌜ allValid 0 (now elements) (length (now elements)) ≡ false ⌝ }
     ensures { λ r. ⌜ inOrder (valueChecks 0 (now (elements .entry))) ≡ Answer.Refused Refusal.Int8Range r ⌝ }
 {
     let mut at: usize = 0;

@@ -1,6 +1,5 @@
 -- Program and model in step, and still so after one call: the program's slots are the model's, and its buffer is the model's raw tensor packed over the
 -- bytes from before the packing. By cases on the call and on its answer. Assumes nothing.
---     leaves-ap, leaves-same          a part of what a call leaves
 --     placed-layout, placed-slots     the table after a placing
 --     Agrees                          program and model in step
 --     same-reply, same-elements       what one call replies and gives
@@ -13,7 +12,8 @@ use lib.IntN.{ℤ, pos}
 use Rattle.refusal.specs.declared.Answer.{Answer}
 use Rattle.refusal.specs.declared.Answer.the-variants.{Accepted, Refused}
 use Rattle.refusal.specs.Checks.{inOrder, leaves}
-use Rattle.elements.proofs.ValueLaws.{valueTaken-fits, valueChecks-taken}
+use Rattle.refusal.proofs.CheckLaws.{leaves-ap, leaves-same}
+use Rattle.elements.proofs.ValueLaws.{valueValid-fits, valueChecks-valid}
 use Rattle.layout.specs.declared.CubeLayout.{CubeLayout}
 use Rattle.layout.specs.declared.ElementBox.{ElementBox}
 use Rattle.layout.specs.Geometry.{elementCount}
@@ -34,16 +34,6 @@ map-set : {A B : Type 0} (f : A → B) (l : List A) (i : ℕ) (y : A) → map f 
 map-set f [] i y = refl
 map-set f (x ∷ xs) zero y = refl
 map-set {B = B} f (x ∷ xs) (suc i) y = ap (λ (zs : List B). f x ∷ zs) (map-set f xs i y)
-
-pub leaves-ap : {A B : Type 0} (f : A → B) (a : Answer) (done before : A) → f (leaves a done before) ≡ leaves a (f done) (f before)
-unfolding leaves
-leaves-ap f Accepted done before = refl
-leaves-ap f (Refused r i) done before = refl
-
-pub leaves-same : {A : Type 0} (a : Answer) (x : A) → leaves a x x ≡ x
-unfolding leaves
-leaves-same Accepted x = refl
-leaves-same (Refused r i) x = refl
 
 module _ (t : RegionTable) (n : ℕ) (g : Rectangle) where
   pub placed-layout : placeTable t n g .layout ≡ t .layout
@@ -92,7 +82,7 @@ module _ (q : CubeLayout) (before : List ℕ) where
     unfolding leaves
     read-cases n b xs Accepted e =
         let d = read-accepted q (m .slots) n b (length xs) (length before) e .admitted in
-        packed-boxRead q (d .layout) (cubeBox (rectangleAt (m .slots) n) b) (d .area) (m .raw) before (a .count) (a .fits) (d .room)
+        packed-boxRead q (d .layout) (cubeBox (rectangleAt (m .slots) n) b) (d .inside) (m .raw) before (a .count) (a .fits) (d .room)
     read-cases n b xs (Refused r i) e = refl
 
     pub same-elements : (c : Call) → step s c .elements ≡ plainStep q (length before) m c .elements
@@ -116,7 +106,7 @@ module _ (q : CubeLayout) (before : List ℕ) where
           let box = cubeBox (rectangleAt (m .slots) n) b in
           let v = edit-accepted q (m .slots) n b xs (length before) e in
           let d = v .reads .admitted in
-          let own : Fits q xs = record { fit = λ i h. valueTaken-fits (q .precision) (getD xs i (pos 0)) (valueChecks-taken (q .precision) xs (v .values) i h) (sixteen .each i) } in
+          let own : Fits q xs = record { fit = λ i h. valueValid-fits (q .precision) (getD xs i (pos 0)) (valueChecks-valid (q .precision) xs (v .values) i h) (sixteen .each i) } in
           record {
             count = boxWritten-length q box xs (m .raw) ∙ a .count;
             fits = boxWritten-fits q box xs (m .raw) (d .count) own (a .fits);

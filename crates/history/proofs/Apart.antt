@@ -18,7 +18,7 @@ use Rattle.refusal.specs.declared.Answer.the-variants.{Accepted, Refused}
 use Rattle.refusal.specs.Checks.{inOrder, leaves}
 use Rattle.layout.specs.declared.CubeLayout.{CubeLayout}
 use Rattle.layout.specs.Geometry.{sizeOf, elementPosition}
-use Rattle.layout.proofs.Taken.{Taken}
+use Rattle.layout.proofs.Valid.{Valid}
 use Rattle.layout.proofs.BoxLaws.{InCube}
 use Rattle.layout.proofs.Formulas.{element-own}
 use Rattle.regions.specs.declared.Rectangle.{Rectangle}
@@ -118,7 +118,7 @@ module _ (q : CubeLayout) (raw : List ℤ) (before : List ℕ) (calls : List Cal
       subst (λ (x : CubeLayout). Apart x (slotsAt q raw before calls)) layout-at (apart-run (beginning q raw before .state) calls (apart-empty q q))
 
 -- ---- no shared byte
-module _ (q : CubeLayout) (ok : Taken q) (slots : List Slot) (a : Apart q slots) where
+module _ (q : CubeLayout) (ok : Valid q) (slots : List Slot) (a : Apart q slots) where
   -- an element of a placed region is in the cube
   region-cube : (n : ℕ) (g : Rectangle) → slotAt slots n ≡ filled g → (c h w : ℕ) → c < q .channels → InRectangle g w h → InCube q c h w
   region-cube n g e c h w hc i =

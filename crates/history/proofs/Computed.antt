@@ -6,17 +6,17 @@ use mathlib.Core.List.{List, [], _∷_, map}
 use lib.ListN.{length, getD}
 use lib.IntN.{pos, negsuc}
 use Rattle.refusal.specs.declared.Answer.the-variants.{Accepted}
-use Rattle.refusal.specs.Codes.{answerCode, answerPlace}
-use Rattle.refusal.specs.Sizes.{sizeTaken}
+use Rattle.refusal.specs.Codes.{answerCode, faultIndex}
+use Rattle.refusal.specs.Sizes.{sizeValid}
 use Rattle.refusal.specs.Checks.{requireAt, inOrder, leaves}
 use Rattle.elements.specs.Bytes.{elementBytes, byteOf, wordAt, signed, elementAt}
 use Rattle.elements.specs.Lists.{remadeFrom, remade, tabulateFrom, tabulate}
-use Rattle.elements.specs.Values.{valueTaken, valueCheck, valueChecksFrom, valueChecks}
+use Rattle.elements.specs.Values.{valueValid, valueCheck, valueChecksFrom, valueChecks}
 use Rattle.layout.specs.Geometry.{elementCount, rawIndex, surfaces, elementPosition, cubeExtent}
 use Rattle.layout.specs.Boxes.{boxCount, spanInside, spanHas, boxHas, boxIndex, channelAt, rowAt, columnAt}
-use Rattle.layout.specs.Rules.{sizesTaken, wholeAtoms, stridesTaken, layoutChecks, storageChecks, cubeChecks}
+use Rattle.layout.specs.Rules.{sizesValid, wholeAtoms, stridesValid, layoutChecks, storageChecks, cubeChecks}
 use Rattle.layout.specs.Owners.{surfaceOf, rowOf, columnOf, byteInAtom, inAtom, atomOwner, owner}
-use Rattle.layout.specs.Contents.{packedByte, packed, editedByte, edited, storedElement, boxElements}
+use Rattle.layout.specs.Contents.{packedByte, packed, editedByte, edited, readElement, boxElements}
 use Rattle.layout.specs.Calls.{packAnswer, packBuffer}
 use Rattle.regions.specs.Slots.{slotOf, slotsOf, emptySlots, rectangleHas, occupied, anyFrom, overlaps, rectangleInside}
 use Rattle.regions.specs.Rules.{slotAt, isFilled, rectangleOf, placeChecks, boxInRectangle, slotChecks, regionBoxChecks, readChecks, editChecks}
@@ -33,7 +33,7 @@ nth n = getD shownOf n (record { reply = record { answer = Accepted; value = non
 pub record Computed : Type 0 where
   pub packing : answerCode (packAnswer layout tensor (length buffer)) ≡ 0
   pub answers : map (λ (s : Shown). answerCode (s .reply .answer)) shownOf ≡ 0 ∷ 10 ∷ 8 ∷ 9 ∷ 8 ∷ 0 ∷ 0 ∷ 0 ∷ 8 ∷ 9 ∷ 6 ∷ 7 ∷ 0 ∷ 0 ∷ 8 ∷ 9 ∷ 6 ∷ []
-  pub fault-index : answerPlace (nth 11 .reply .answer) ≡ 1
+  pub fault-index : faultIndex (nth 11 .reply .answer) ≡ 1
   pub read-0 : nth 12 .elements ≡ pos 1 ∷ pos 2 ∷ pos 4 ∷ negsuc 7 ∷ []
   pub read-1 : nth 13 .elements ≡ pos 9 ∷ negsuc 5 ∷ []
   pub byte-33 : getD (nth 5 .buffer) 33 0 ∷ getD (nth 6 .buffer) 33 0 ∷ [] ≡ 5 ∷ 248 ∷ []
@@ -54,10 +54,10 @@ pub record Pictured : Type 0 where
   pub read-1 : nthPlain 13 .elements ≡ pos 9 ∷ negsuc 5 ∷ []
 
 pub computed : Computed
-unfolding requireAt inOrder leaves elementBytes byteOf wordAt signed elementAt remadeFrom remade tabulateFrom tabulate valueTaken valueCheck valueChecksFrom valueChecks elementCount rawIndex surfaces elementPosition cubeExtent boxCount spanInside spanHas boxHas boxIndex channelAt rowAt columnAt sizeTaken sizesTaken wholeAtoms stridesTaken layoutChecks storageChecks cubeChecks surfaceOf rowOf columnOf byteInAtom inAtom atomOwner owner packedByte packed editedByte edited storedElement boxElements packAnswer packBuffer slotOf slotsOf rectangleHas occupied anyFrom overlaps rectangleInside slotAt isFilled rectangleOf placeChecks boxInRectangle slotChecks regionBoxChecks readChecks editChecks placeAnswer placeTable editAnswer editBuffer readAnswer readElements step program calls
+unfolding requireAt inOrder leaves elementBytes byteOf wordAt signed elementAt remadeFrom remade tabulateFrom tabulate valueValid valueCheck valueChecksFrom valueChecks elementCount rawIndex surfaces elementPosition cubeExtent boxCount spanInside spanHas boxHas boxIndex channelAt rowAt columnAt sizeValid sizesValid wholeAtoms stridesValid layoutChecks storageChecks cubeChecks surfaceOf rowOf columnOf byteInAtom inAtom atomOwner owner packedByte packed editedByte edited readElement boxElements packAnswer packBuffer slotOf slotsOf rectangleHas occupied anyFrom overlaps rectangleInside slotAt isFilled rectangleOf placeChecks boxInRectangle slotChecks regionBoxChecks readChecks editChecks placeAnswer placeTable editAnswer editBuffer readAnswer readElements step program calls
 computed =
     record { packing = refl; answers = refl; fault-index = refl; read-0 = refl; read-1 = refl; byte-33 = refl; byte-64 = refl }
 
 pub pictured : Pictured
-unfolding requireAt inOrder leaves elementBytes byteOf wordAt signed elementAt remadeFrom remade tabulateFrom tabulate valueTaken valueCheck valueChecksFrom valueChecks elementCount rawIndex surfaces elementPosition cubeExtent boxCount spanInside spanHas boxHas boxIndex channelAt rowAt columnAt sizeTaken sizesTaken wholeAtoms stridesTaken layoutChecks storageChecks cubeChecks surfaceOf rowOf columnOf byteInAtom inAtom atomOwner owner packedByte packed editedByte edited storedElement boxElements packAnswer packBuffer slotOf slotsOf rectangleHas occupied anyFrom overlaps rectangleInside slotAt isFilled rectangleOf placeChecks boxInRectangle slotChecks regionBoxChecks readChecks editChecks placeAnswer placeTable editAnswer editBuffer readAnswer readElements emptySlots boxWritten boxRead plainAnswer plainStep model calls
+unfolding requireAt inOrder leaves elementBytes byteOf wordAt signed elementAt remadeFrom remade tabulateFrom tabulate valueValid valueCheck valueChecksFrom valueChecks elementCount rawIndex surfaces elementPosition cubeExtent boxCount spanInside spanHas boxHas boxIndex channelAt rowAt columnAt sizeValid sizesValid wholeAtoms stridesValid layoutChecks storageChecks cubeChecks surfaceOf rowOf columnOf byteInAtom inAtom atomOwner owner packedByte packed editedByte edited readElement boxElements packAnswer packBuffer slotOf slotsOf rectangleHas occupied anyFrom overlaps rectangleInside slotAt isFilled rectangleOf placeChecks boxInRectangle slotChecks regionBoxChecks readChecks editChecks placeAnswer placeTable editAnswer editBuffer readAnswer readElements emptySlots boxWritten boxRead plainAnswer plainStep model calls
 pictured = record { answers = refl; edited-0 = refl; edited-1 = refl; refused = refl; read-1 = refl }

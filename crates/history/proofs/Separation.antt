@@ -14,7 +14,7 @@ use Rattle.refusal.specs.declared.Answer.{Answer}
 use Rattle.refusal.specs.declared.Answer.the-variants.{Accepted, Refused}
 use Rattle.refusal.specs.declared.Refusal.{Refusal}
 use Rattle.refusal.specs.Checks.{inOrder, leaves}
-use Rattle.refusal.proofs.CheckLaws.{leaves-before}
+use Rattle.refusal.proofs.CheckLaws.{leaves-before, leaves-ap, leaves-same}
 use Rattle.layout.specs.declared.CubeLayout.{CubeLayout}
 use Rattle.layout.specs.declared.ElementBox.{ElementBox}
 use Rattle.layout.specs.Geometry.{sizeOf, elementPosition}
@@ -31,7 +31,6 @@ use Rattle.regions.proofs.CallLaws.{read-accepted, edit-accepted}
 use Rattle.regions.proofs.ReadLaws.{same-elements}
 use Rattle.regions.proofs.OverlapLaws.{InRectangle, in-has}
 use Rattle.history.specs.Program.{Call, place, edit, read, none, State, step, writesElement}
-use Rattle.history.proofs.Agreement.{leaves-ap, leaves-same}
 use Rattle.history.proofs.Apart.{Apart, no-shared-byte}
 
 -- ---- what an edit changes

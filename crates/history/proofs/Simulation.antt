@@ -19,7 +19,7 @@ use Rattle.refusal.specs.Checks.{inOrder}
 use Rattle.refusal.proofs.TestLaws.{and-both}
 use Rattle.refusal.proofs.CheckLaws.{inOrder-front, inOrder-passed, leaves-done}
 use Rattle.elements.specs.Bytes.{elementBytes}
-use Rattle.elements.specs.Values.{valueTaken, valueChecks}
+use Rattle.elements.specs.Values.{valueValid, valueChecks}
 use Rattle.elements.proofs.ValueLaws.{valueChecks-all}
 use Rattle.layout.specs.declared.CubeLayout.{CubeLayout}
 use Rattle.layout.specs.Geometry.{elementCount}
@@ -34,8 +34,8 @@ use Rattle.history.specs.Program.{Call, SixteenBit, LendsSixteenBit, Sta
 use Rattle.history.specs.Model.{Plain, plainStep, model, modelTo, shown, given}
 use Rattle.history.proofs.Agreement.{Agrees, same-reply, same-elements, agrees-after}
 
-valid-when-fits : (p : ℕ) (z : ℤ) → mag z < 256 ^ elementBytes p / 2 → valueTaken p z ≡ true
-unfolding elementBytes valueTaken
+valid-when-fits : (p : ℕ) (z : ℤ) → mag z < 256 ^ elementBytes p / 2 → valueValid p z ≡ true
+unfolding elementBytes valueValid
 valid-when-fits zero (pos n) h = le-leb n 127 (omega (arith, h))
 valid-when-fits zero (negsuc n) h = and-both (le-leb n 127 (omega (arith, h))) refl
 valid-when-fits (suc p) z h = refl

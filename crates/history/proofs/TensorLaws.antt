@@ -20,10 +20,10 @@ use Rattle.layout.specs.declared.ElementBox.{ElementBox}
 use Rattle.layout.specs.Geometry.{sizeOf, elementCount, rawIndex, cubeExtent}
 use Rattle.layout.specs.Boxes.{wholeBox, boxCount, boxHas, boxIndex, channelAt, rowAt, columnAt}
 use Rattle.layout.specs.Owners.{Owner, owner}
-use Rattle.layout.specs.Contents.{packedByte, packed, editedByte, edited, storedElement, boxElements}
-use Rattle.layout.proofs.Taken.{Taken}
+use Rattle.layout.specs.Contents.{packedByte, packed, editedByte, edited, readElement, boxElements}
+use Rattle.layout.proofs.Valid.{Valid}
 use Rattle.layout.proofs.Views.{View, is-element, is-padding, is-outside, see}
-use Rattle.layout.proofs.BoxLaws.{BoxTaken, InCube, in-cube, boxHas-in, boxIndex-lt, index-channel, index-row, index-column, at-in, whole-count, whole-index, whole-in}
+use Rattle.layout.proofs.BoxLaws.{BoxValid, InCube, in-cube, boxHas-in, boxIndex-lt, index-channel, index-row, index-column, at-in, whole-count, whole-index, whole-in}
 use Rattle.layout.proofs.ContentLaws.{packed-length, packed-at, edited-length, edited-at}
 use Rattle.layout.proofs.RoundTrip.{stored-raw}
 use Rattle.history.specs.Model.{boxWritten, boxRead}
@@ -67,7 +67,7 @@ module _ (q : CubeLayout) (box : ElementBox) (xs raw : List ℤ) where
         ∙ ap (λ (x : ℕ). cond (boxHas box c x (columnAt b j)) (getD xs (boxIndex box c x (columnAt b j)) (pos 0)) old) (index-row b c h w inb)
         ∙ ap (λ (x : ℕ). cond (boxHas box c h x) (getD xs (boxIndex box c h x) (pos 0)) old) (index-column b c h w inb)
 
-    module _ (ok : Taken q) (before : List ℕ) where
+    module _ (ok : Valid q) (before : List ℕ) where
       byte-of : (t : Bool) (a b : ℤ) (k : ℕ) → byteOf (cond t a b) k ≡ cond t (byteOf a k) (byteOf b k)
       byte-of true a b k = refl
       byte-of false a b k = refl
@@ -114,11 +114,11 @@ boxWritten-fits q box xs raw count fx fr =
     go c y w i hi false e = fr .fit i hi
 
 -- what a box of the packed buffer reads
-pub packed-boxRead : (q : CubeLayout) → Taken q → (box : ElementBox) → BoxTaken q box → (raw : List ℤ) (before : List ℕ) → length raw ≡ elementCount q → Fits q raw
+pub packed-boxRead : (q : CubeLayout) → Valid q → (box : ElementBox) → BoxValid q box → (raw : List ℤ) (before : List ℕ) → length raw ≡ elementCount q → Fits q raw
     → q .start + cubeExtent q ≤ length before → boxElements q box (packed q raw before) ≡ boxRead q box raw
 unfolding boxElements boxRead
 packed-boxRead q ok box valid raw before long fits room =
-    let f : ℕ → ℤ = λ (i : ℕ). storedElement q (packed q raw before) (channelAt box i) (rowAt box i) (columnAt box i) in
+    let f : ℕ → ℤ = λ (i : ℕ). readElement q (packed q raw before) (channelAt box i) (rowAt box i) (columnAt box i) in
     let g : ℕ → ℤ = λ (i : ℕ). getD raw (rawIndex q (channelAt box i) (rowAt box i) (columnAt box i)) (pos 0) in
     tabulate-ext (pos 0) (boxCount box) f g
     (λ i hi.

@@ -15,9 +15,9 @@ use Rattle.layout.specs.declared.CubeLayout.{CubeLayout}
 use Rattle.layout.specs.Geometry.{surfaces, atomPosition}
 use Rattle.layout.specs.Owners.{surfaceOf, rowOf, columnOf, byteInAtom, inAtom, atomOwner, owner}
 use Rattle.refusal.proofs.TestLaws.{and-left, and-right, and-both}
-use Rattle.layout.proofs.Taken.{Taken}
+use Rattle.layout.proofs.Valid.{Valid}
 
-module _ (q : CubeLayout) (ok : Taken q) where
+module _ (q : CubeLayout) (ok : Valid q) where
   line-pos : 0 < q .line
   line-pos = omega (arith, ok .line-ge, ok .width-pos)
 

@@ -1,7 +1,7 @@
 -- Boxes: what an accepted one tells, and the raw order over a box as a numbering of its elements. An index is a number of three digits,
 -- channel, row and column of the box. Assumes nothing.
 --     Span, span-inside, inside-span        a span inside a size
---     BoxTaken, box-taken, whole-inside     the facts of an accepted box; the whole cube is one
+--     BoxValid, box-valid, whole-inside     the facts of an accepted box; the whole cube is one
 --     InBox, boxHas-in, in-boxHas           an element of a box, as facts and as a test
 --     boxIndex-lt, boxIndex-inj             its index is one of the box's, and no other element's
 --     index-channel, index-row, index-column     the element at an index
@@ -20,7 +20,7 @@ use Rattle.layout.specs.declared.ElementBox.{ElementBox}
 use Rattle.layout.specs.Geometry.{elementCount, rawIndex}
 use Rattle.layout.specs.Boxes.{wholeBox, boxCount, spanInside, boxInside, spanHas, boxHas, boxIndex, channelAt, rowAt, columnAt}
 use Rattle.refusal.proofs.TestLaws.{and-left, and-right, and-both}
-use Rattle.layout.proofs.Taken.{Taken}
+use Rattle.layout.proofs.Valid.{Valid}
 pub use Rattle.layout.specs.Places.{InBox, InCube}
 
 -- `count` numbers from `first` on, at least one, all below `size`
@@ -41,14 +41,14 @@ unfolding spanInside
 inside-span first count size s = and-both (le-leb 1 count (s .some)) (le-leb (first + count) size (s .fit))
 
 -- the facts of an accepted box
-pub record BoxTaken (q : CubeLayout) (b : ElementBox) : Type 0 where
+pub record BoxValid (q : CubeLayout) (b : ElementBox) : Type 0 where
   pub channels : Span (b .channel) (b .channels) (q .channels)
   pub rows : Span (b .row) (b .rows) (q .height)
   pub columns : Span (b .column) (b .columns) (q .width)
 
-pub box-taken : (q : CubeLayout) (b : ElementBox) → boxInside q b ≡ true → BoxTaken q b
+pub box-valid : (q : CubeLayout) (b : ElementBox) → boxInside q b ≡ true → BoxValid q b
 unfolding boxInside
-box-taken q b e =
+box-valid q b e =
     let t1 = spanInside (b .channel) (b .channels) (q .channels) in
     let t2 = spanInside (b .row) (b .rows) (q .height) in
     let t3 = spanInside (b .column) (b .columns) (q .width) in
@@ -59,9 +59,9 @@ box-taken q b e =
       columns = span-inside (b .column) (b .columns) (q .width) (and-right (t1 && t2) t3 e);
     }
 
-pub taken-box : (q : CubeLayout) (b : ElementBox) → BoxTaken q b → boxInside q b ≡ true
+pub valid-box : (q : CubeLayout) (b : ElementBox) → BoxValid q b → boxInside q b ≡ true
 unfolding boxInside
-taken-box q b t =
+valid-box q b t =
     and-both
     (and-both (inside-span (b .channel) (b .channels) (q .channels) (t .channels)) (inside-span (b .row) (b .rows) (q .height) (t .rows)))
     (inside-span (b .column) (b .columns) (q .width) (t .columns))
@@ -69,12 +69,12 @@ taken-box q b t =
 whole-span : (n : ℕ) → 0 < n → Span 0 n n
 whole-span n h = record { some = h; fit = omega arith }
 
-pub whole-taken : (q : CubeLayout) → Taken q → BoxTaken q (wholeBox q)
-whole-taken q ok =
+pub whole-valid : (q : CubeLayout) → Valid q → BoxValid q (wholeBox q)
+whole-valid q ok =
     record { channels = whole-span (q .channels) (ok .channels-pos); rows = whole-span (q .height) (ok .height-pos); columns = whole-span (q .width) (ok .width-pos) }
 
-pub whole-inside : (q : CubeLayout) → Taken q → boxInside q (wholeBox q) ≡ true
-whole-inside q ok = taken-box q (wholeBox q) (whole-taken q ok)
+pub whole-inside : (q : CubeLayout) → Valid q → boxInside q (wholeBox q) ≡ true
+whole-inside q ok = valid-box q (wholeBox q) (whole-valid q ok)
 
 has-ge : (first count x : ℕ) → spanHas first count x ≡ true → first ≤ x
 unfolding spanHas
@@ -115,7 +115,7 @@ in-boxHas b c h w i =
     (has (b .column) (b .columns) w (i .column-ge) (i .column-lt))
 
 -- an element of an accepted box is in the cube
-pub in-cube : (q : CubeLayout) (b : ElementBox) (c h w : ℕ) → BoxTaken q b → InBox b c h w → InCube q c h w
+pub in-cube : (q : CubeLayout) (b : ElementBox) (c h w : ℕ) → BoxValid q b → InBox b c h w → InCube q c h w
 in-cube q b c h w t i =
     record {
       channel-lt = omega (arith, i .channel-lt, t .channels .fit);

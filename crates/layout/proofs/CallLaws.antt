@@ -3,7 +3,7 @@
 --     admit-whole            the box check of the whole cube never refuses
 --     pack-admitted, pack-values     what an accepted packing tells
 --     box-layout .. box-accepted     checks 1 to 4, 9, one after another
---     admit-box .. admit-taken       checks 6 and 5 after them
+--     admit-box .. admit-valid       checks 6 and 5 after them
 --     box-counts             a box's counts are at most 8192
 --     write-refused .. write-admitted    7 after the others
 --     pack-whole, unpack-whole       calls on the whole cube are box calls
@@ -30,13 +30,13 @@ use Rattle.layout.specs.Geometry.{cubeExtent}
 use Rattle.layout.specs.Boxes.{wholeBox, boxCount, boxInside}
 use Rattle.layout.specs.Rules.{layoutChecks, boxChecks, storageChecks, cubeChecks, admitChecks}
 use Rattle.layout.specs.Calls.{packAnswer, unpackAnswer, writeBoxAnswer, readBoxAnswer}
-use Rattle.layout.proofs.Taken.{Taken, taken}
-use Rattle.layout.proofs.BoxLaws.{BoxTaken, box-taken, whole-inside, whole-count}
+use Rattle.layout.proofs.Valid.{Valid, valid}
+use Rattle.layout.proofs.BoxLaws.{BoxValid, box-valid, whole-inside, whole-count}
 
--- an accepted call: the layout and the box are taken, the elements are as many as the box has, the buffer holds the extent
+-- an accepted call: the layout and the box are valid, the elements are as many as the box has, the buffer holds the extent
 pub record Admitted (q : CubeLayout) (box : ElementBox) (given len : ℕ) : Type 0 where
-  pub layout : Taken q
-  pub area : BoxTaken q box
+  pub layout : Valid q
+  pub inside : BoxValid q box
   pub count : given ≡ boxCount box
   pub room : q .start + cubeExtent q ≤ len
 
@@ -75,11 +75,11 @@ module _ (q : CubeLayout) (box : ElementBox) where
   box-accepted ok e = sym (inOrder-passed (layoutChecks q) (require Bounds (boxInside q box) ∷ []) ok ∙ inOrder-next 0 Bounds [] e ∙ inOrder-nil)
 
 -- what accepted checks 1 to 4, 9 tell
-pub box-layout-taken : (q : CubeLayout) (box : ElementBox) → inOrder (boxChecks q box) ≡ Accepted → Taken q
-box-layout-taken q box e = taken q (box-layout q box e)
+pub box-layout-valid : (q : CubeLayout) (box : ElementBox) → inOrder (boxChecks q box) ≡ Accepted → Valid q
+box-layout-valid q box e = valid q (box-layout q box e)
 
-pub box-area-taken : (q : CubeLayout) (box : ElementBox) → inOrder (boxChecks q box) ≡ Accepted → BoxTaken q box
-box-area-taken q box e = box-taken q box (box-inside q box e)
+pub boxChecks-valid : (q : CubeLayout) (box : ElementBox) → inOrder (boxChecks q box) ≡ Accepted → BoxValid q box
+boxChecks-valid q box e = box-valid q box (box-inside q box e)
 
 pub admitted : (q : CubeLayout) (box : ElementBox) (given len : ℕ) → inOrder (admitChecks q box given len) ≡ Accepted → Admitted q box given len
 unfolding admitChecks
@@ -87,15 +87,15 @@ admitted q box given len e =
     let front = inOrder-front (boxChecks q box) (storageChecks q (boxCount box) given len) e in
     let back = inOrder-back (boxChecks q box) (storageChecks q (boxCount box) given len) e in
     record {
-      layout = box-layout-taken q box front;
-      area = box-area-taken q box front;
+      layout = box-layout-valid q box front;
+      inside = boxChecks-valid q box front;
       count = storage-count q (boxCount box) given len back;
       room = storage-room q (boxCount box) given len back;
     }
 
--- the box check of the whole cube holds once the layout is taken
+-- the box check of the whole cube holds once the layout is valid
 whole-front : (q : CubeLayout) (a : Answer) → inOrder (layoutChecks q) ≡ a → inOrder (boxChecks q (wholeBox q)) ≡ a
-whole-front q Accepted e = sym (box-accepted q (wholeBox q) e (whole-inside q (taken q e)))
+whole-front q Accepted e = sym (box-accepted q (wholeBox q) e (whole-inside q (valid q e)))
 whole-front q (Refused r i) e = sym (box-refused q (wholeBox q) e)
 
 pub admit-whole : (q : CubeLayout) (given len : ℕ) → inOrder (admitChecks q (wholeBox q) given len) ≡ inOrder (cubeChecks q given len)
@@ -141,17 +141,17 @@ module _ (q : CubeLayout) (box : ElementBox) (given len : ℕ) where
           ∙ inOrder-next 0 ElementCount (require BufferLength (leb (q .start + cubeExtent q) len) ∷ []) (eq-eqb given (boxCount box) count)
           ∙ inOrder-stop 0 BufferLength [] (lt-leb (q .start + cubeExtent q) len h))
 
-      pub admit-taken : q .start + cubeExtent q ≤ len → Accepted ≡ inOrder (admitChecks q box given len)
+      pub admit-valid : q .start + cubeExtent q ≤ len → Accepted ≡ inOrder (admitChecks q box given len)
       unfolding storageChecks
-      admit-taken h =
+      admit-valid h =
           sym
           (to-storage
           ∙ inOrder-next 0 ElementCount (require BufferLength (leb (q .start + cubeExtent q) len) ∷ []) (eq-eqb given (boxCount box) count)
           ∙ inOrder-next 0 BufferLength [] (le-leb (q .start + cubeExtent q) len h)
           ∙ inOrder-nil)
 
--- the counts of a box inside a taken cube
-pub box-counts : (q : CubeLayout) (box : ElementBox) → Taken q → BoxTaken q box → (box .channels ≤ 8192) × (box .rows ≤ 8192) × (box .columns ≤ 8192)
+-- the counts of a box inside a valid cube
+pub box-counts : (q : CubeLayout) (box : ElementBox) → Valid q → BoxValid q box → (box .channels ≤ 8192) × (box .rows ≤ 8192) × (box .columns ≤ 8192)
 box-counts q box ok t =
     (omega (arith, t .channels .fit, ok .channels-le), omega (arith, t .rows .fit, ok .height-le), omega (arith, t .columns .fit, ok .width-le))
 

@@ -10,15 +10,15 @@ use Rattle.refusal.specs.declared.Refusal.the-variants.{Int8Range}
 use Rattle.refusal.specs.declared.Answer.the-variants.{Refused}
 use Rattle.refusal.specs.Codes.{answerCode}
 use Rattle.refusal.specs.Checks.{requireAt, inOrder}
-use Rattle.refusal.specs.Sizes.{sizeTaken}
+use Rattle.refusal.specs.Sizes.{sizeValid}
 use Rattle.elements.specs.Bytes.{elementBytes, byteOf, wordAt, signed, elementAt}
-use Rattle.elements.specs.Values.{valueTaken, valueCheck, valueChecksFrom, valueChecks}
+use Rattle.elements.specs.Values.{valueValid, valueCheck, valueChecksFrom, valueChecks}
 use Rattle.layout.specs.declared.CubeLayout.{CubeLayout}
 use Rattle.layout.specs.declared.ElementBox.{ElementBox}
 use Rattle.layout.specs.Geometry.{layoutOf, elementCount, rawIndex, surfaces, elementPosition, cubeExtent}
 use Rattle.layout.specs.Boxes.{oneElement, boxCount, spanInside, boxInside, spanHas, boxHas, boxIndex, channelAt, rowAt, columnAt}
 use Rattle.layout.specs.Owners.{element, padding, outside, surfaceOf, rowOf, columnOf, byteInAtom, inAtom, atomOwner, owner}
-use Rattle.layout.specs.Rules.{sizesTaken, wholeAtoms, stridesTaken, layoutChecks, boxChecks, storageChecks, cubeChecks, admitChecks}
+use Rattle.layout.specs.Rules.{sizesValid, wholeAtoms, stridesValid, layoutChecks, boxChecks, storageChecks, cubeChecks, admitChecks}
 use Rattle.layout.specs.Contents.{packedByte, editedByte}
 use Rattle.layout.specs.Calls.{packAnswer, unpackAnswer, writeBoxAnswer}
 
@@ -54,17 +54,17 @@ pub record Computed : Type 0 where
   pub writes : editedByte pair (pos 5 ∷ pos 6 ∷ []) (element 1 1 1 0) 7 ≡ 6
   pub leaves-other : editedByte pair (pos 5 ∷ pos 6 ∷ []) (element 1 1 2 0) 7 ≡ 7
   pub leaves-padding : editedByte pair (pos 5 ∷ pos 6 ∷ []) padding 7 ≡ 7
-  -- 3: surface 224 is taken, 192 is not; a line that lacks an atom; also with one row; strides that are no multiples of 32. 4: a start of 16. 2: precision 3. 1
+  -- 3: surface 224 is valid, 192 is not; a line that lacks an atom; also with one row; strides that are no multiples of 32. 4: a start of 16. 2: precision 3. 1
   pub strides : map answer (layoutOf 3 2 40 0 128 224 0 ∷ layoutOf 3 2 40 0 128 192 0 ∷ layoutOf 3 2 40 0 64 256 0 ∷ layoutOf 3 1 40 0 64 256 0 ∷ layoutOf 3 2 40 0 112 256 0 ∷ layoutOf 3 2 40 0 128 240 0 ∷ [])
       ≡ 0 ∷ 3 ∷ 3 ∷ 3 ∷ 3 ∷ 3 ∷ []
   pub others : map answer (layoutOf 3 2 40 0 128 256 16 ∷ layoutOf 3 2 40 3 128 256 0 ∷ layoutOf 3 2 8193 0 128 256 0 ∷ layoutOf 3 0 40 0 128 256 0 ∷ []) ≡ 4 ∷ 2 ∷ 1 ∷ 1 ∷ []
   -- two at once: 1 and 2, 2 and 3, 3 and 4
   pub double : map answer (layoutOf 0 2 40 3 128 256 0 ∷ layoutOf 3 2 40 3 0 256 0 ∷ layoutOf 3 2 40 0 0 256 16 ∷ []) ≡ 1 ∷ 2 ∷ 3 ∷ []
-  -- 9: a box that ends with the cube is taken, one column past it is not, nor one of no rows
+  -- 9: a box that ends with the cube is valid, one column past it is not, nor one of no rows
   pub inside : boxInside frame (record { channel = 39; row = 1; column = 1; channels = 1; rows = 1; columns = 2 }) ≡ true
   pub past : boxInside frame (record { channel = 39; row = 1; column = 1; channels = 1; rows = 1; columns = 3 }) ≡ false
   pub empty : boxInside frame (record { channel = 39; row = 1; column = 1; channels = 1; rows = 0; columns = 2 }) ≡ false
-  -- packing, two at once: 4 and 6, 6 and 5, 5 and 7; 5 and 7 alone; a buffer of the extent is taken
+  -- packing, two at once: 4 and 6, 6 and 5, 5 and 7; 5 and 7 alone; a buffer of the extent is valid
   pub packing : map (λ (n : ℕ). answerCode (packAnswer (single 0 16) [] n)) (31 ∷ []) ≡ 4 ∷ []
   pub count-first : answerCode (packAnswer (single 0 0) [] 31) ≡ 6
   pub room-first : answerCode (packAnswer (single 0 0) (pos 200 ∷ []) 31) ≡ 5
@@ -79,7 +79,7 @@ pub record Computed : Type 0 where
   pub box-room-first : answerCode (writeBoxAnswer (single 0 0) (oneElement 0 0 0) (pos 200 ∷ []) 31) ≡ 5
 
 pub computed : Computed
-unfolding requireAt inOrder sizeTaken elementBytes byteOf wordAt signed elementAt valueTaken valueCheck valueChecksFrom valueChecks elementCount rawIndex surfaces elementPosition cubeExtent boxCount spanInside boxInside spanHas boxHas boxIndex channelAt rowAt columnAt surfaceOf rowOf columnOf byteInAtom inAtom atomOwner owner sizesTaken wholeAtoms stridesTaken layoutChecks boxChecks storageChecks cubeChecks admitChecks packedByte editedByte packAnswer unpackAnswer writeBoxAnswer
+unfolding requireAt inOrder sizeValid elementBytes byteOf wordAt signed elementAt valueValid valueCheck valueChecksFrom valueChecks elementCount rawIndex surfaces elementPosition cubeExtent boxCount spanInside boxInside spanHas boxHas boxIndex channelAt rowAt columnAt surfaceOf rowOf columnOf byteInAtom inAtom atomOwner owner sizesValid wholeAtoms stridesValid layoutChecks boxChecks storageChecks cubeChecks admitChecks packedByte editedByte packAnswer unpackAnswer writeBoxAnswer
 computed =
     record {
       position = refl;

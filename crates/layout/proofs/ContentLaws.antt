@@ -23,7 +23,7 @@ use Rattle.layout.specs.Geometry.{sizeOf, rawIndex, elementPosition}
 use Rattle.layout.specs.Boxes.{wholeBox, boxHas, boxIndex}
 use Rattle.layout.specs.Owners.{Owner, element, padding, outside, owner}
 use Rattle.layout.specs.Contents.{packedByte, packed, editedByte, edited}
-use Rattle.layout.proofs.Taken.{Taken}
+use Rattle.layout.proofs.Valid.{Valid}
 use Rattle.layout.proofs.Views.{View, is-element, is-padding, is-outside, see, element-owner}
 use Rattle.layout.proofs.BoxLaws.{InBox, InCube, boxHas-in, in-boxHas, whole-in, whole-index}
 
@@ -76,7 +76,7 @@ module _ (q : CubeLayout) (box : ElementBox) (xs : List ℤ) (before : List ℕ)
   edited-same : (p : ℕ) → ((old : ℕ) → editedByte box xs (owner q p) old ≡ old) → getD (edited q box xs before) p 0 ≡ getD before p 0
   edited-same p f = elim (decLt p (length before)) [ yes h ↦ edited-at p h ∙ f (getD before p 0) | no g ↦ edited-past p (omega arith) ]
 
-  module _ (ok : Taken q) where
+  module _ (ok : Valid q) where
     pub edited-element : (c h w b : ℕ) → InCube q c h w → InBox box c h w → b < sizeOf q → elementPosition q c h w + b < length before
         → getD (edited q box xs before) (elementPosition q c h w + b) 0 ≡ byteOf (getD xs (boxIndex box c h w) (pos 0)) b
     edited-element c h w b cube i hb hp =
@@ -121,7 +121,7 @@ module _ (q : CubeLayout) (box : ElementBox) (xs : List ℤ) (before : List ℕ)
       pub edited-reached : after ≡ edited q box xs before
       edited-reached = ext-getD 0 after (edited q box xs before) (near .long ∙ sym edited-length) (λ p h. reached-view p refl (see q ok p))
 
-module _ (q : CubeLayout) (ok : Taken q) (raw : List ℤ) (before wiped : List ℕ) (long : length wiped ≡ length before)
+module _ (q : CubeLayout) (ok : Valid q) (raw : List ℤ) (before wiped : List ℕ) (long : length wiped ≡ length before)
     (gaps : (p : ℕ) → owner q p ≡ outside → getD wiped p 0 ≡ getD before p 0) (pads : (p : ℕ) → p < length before → owner q p ≡ padding → getD wiped p 0 ≡ 0) where
   whole-view : (p : ℕ) → p < length before → {o : Owner} → owner q p ≡ o → View q p o → getD (edited q (wholeBox q) raw wiped) p 0 ≡ getD (packed q raw before) p 0
   unfolding editedByte

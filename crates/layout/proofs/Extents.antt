@@ -12,14 +12,14 @@ use mathlib.Core.Logic.{_⊎_, ⊎-elim}
 use Rattle.elements.proofs.ByteLaws.{elementBytes-cases, elementBytes-pos, elementBytes-le}
 use Rattle.layout.specs.declared.CubeLayout.{CubeLayout}
 use Rattle.layout.specs.Geometry.{sizeOf, surfaces, elementPosition, atomPosition, cubeExtent}
-use Rattle.layout.proofs.Taken.{Taken}
+use Rattle.layout.proofs.Valid.{Valid}
 use Rattle.layout.proofs.Views.{element-atom, element-surface}
 
 pub element-column : (q : CubeLayout) (c h w i : ℕ) → elementPosition q c h (w + i) ≡ elementPosition q c h w + 32 * i
 unfolding elementPosition
 element-column q c h w i = omega arith
 
-module _ (q : CubeLayout) (ok : Taken q) where
+module _ (q : CubeLayout) (ok : Valid q) where
   pub atom-within : (s h w k : ℕ) → s < surfaces q → h < q .height → w < q .width → k ≤ 32 → atomPosition q s h w k ≤ q .start + cubeExtent q
   unfolding atomPosition cubeExtent
   atom-within s h w k hs hh hw hk =

@@ -16,7 +16,7 @@ use Rattle.layout.specs.declared.CubeLayout.{CubeLayout}
 use Rattle.layout.specs.Geometry.{sizeOf, surfaces, rawIndex, elementPosition, atomPosition, cubeExtent}
 use Rattle.layout.specs.Owners.{Owner, element, padding, outside, owner}
 use Rattle.layout.specs.Contents.{packed}
-use Rattle.layout.proofs.Taken.{Taken}
+use Rattle.layout.proofs.Valid.{Valid}
 use Rattle.layout.proofs.Atoms.{atom-owner}
 use Rattle.layout.proofs.Views.{View, is-element, is-padding, is-outside, see, element-owner, element-atom, element-surface, channel-in-atom, padding-owner, owner-inside}
 use Rattle.layout.proofs.BoxLaws.{InCube}
@@ -24,7 +24,7 @@ use Rattle.layout.proofs.ContentLaws.{packed-element, packed-padding, p
 use Rattle.layout.proofs.Extents.{element-within, atom-within}
 pub use Rattle.layout.specs.Places.{AtomByte, PaddingByte}
 
-module _ (q : CubeLayout) (ok : Taken q) where
+module _ (q : CubeLayout) (ok : Valid q) where
   -- a byte is one element's, and one byte of it
   pub element-own : (c h w b c′ h′ w′ b′ : ℕ) → InCube q c h w → InCube q c′ h′ w′ → b < sizeOf q → b′ < sizeOf q
       → elementPosition q c h w + b ≡ elementPosition q c′ h′ w′ + b′ → (c ≡ c′) × (h ≡ h′) × (w ≡ w′) × (b ≡ b′)

@@ -1,6 +1,6 @@
 -- Laws of the definitions of specs/, for the crates above.
 --     Computed        the paper's frame, owners and the orders, computed
---     Taken           what an accepted layout tells
+--     Valid           what an accepted layout tells
 --     RuleLaws        checks 1 to 4 as the code goes through them
 --     Atoms           a byte's atom by division, and the paper's formula
 --     Views           a byte's owner by cases, each with the paper's formula
@@ -13,7 +13,7 @@
 --     PackLaws        what an accepted packing, or writing of a box, comes to
 --     Claims          the claims about packed cubes, of the calls
 pub mod Computed
-pub mod Taken
+pub mod Valid
 pub mod RuleLaws
 pub mod Atoms
 pub mod Views

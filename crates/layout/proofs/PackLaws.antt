@@ -21,7 +21,7 @@ use Rattle.layout.specs.Places.{InCube, InBox, ElementByte, AtomByte, Pa
 use Rattle.layout.specs.Rules.{cubeChecks}
 use Rattle.layout.specs.Contents.{packed, edited, unpacked}
 use Rattle.layout.specs.Calls.{packAnswer, packBuffer, unpackAnswer, unpackElements, writeBoxAnswer, writeBoxBuffer}
-use Rattle.layout.proofs.Taken.{Taken}
+use Rattle.layout.proofs.Valid.{Valid}
 use Rattle.layout.proofs.Views.{View, is-element, is-padding, is-outside, see, owner-inside}
 use Rattle.layout.proofs.Formulas.{element-own as own}
 use Rattle.layout.proofs.BoxLaws.{in-cube}
@@ -35,7 +35,7 @@ module _ (q : CubeLayout) (raw : List ℤ) (before : List ℕ) (accepted : packA
   adm : Admitted q (wholeBox q) (length raw) (length before)
   adm = pack-admitted q raw (length before) accepted
 
-  ok : Taken q
+  ok : Valid q
   ok = adm .layout
 
   -- what packing leaves
@@ -104,7 +104,7 @@ module _ (q : CubeLayout) (box : ElementBox) (xs : List ℤ) (before : List ℕ)
   pub box-written : (c h w b : ℕ) → InBox box c h w → b < sizeOf q
       → getD (writeBoxBuffer q box xs before) (elementPosition q c h w + b) 0 ≡ byteOf (getD xs (boxIndex box c h w) (pos 0)) b
   box-written c h w b i hb =
-      let cube = in-cube q box c h w (box-adm .area) i in
+      let cube = in-cube q box c h w (box-adm .inside) i in
       box-at (elementPosition q c h w + b) (byteOf (getD xs (boxIndex box c h w) (pos 0)) b)
       (edited-element q box xs before (box-adm .layout) c h w b cube i hb (omega (arith, box-adm .room, element-within q (box-adm .layout) c h w (cube .channel-lt) (cube .row-lt) (cube .column-lt))))
 

@@ -1,7 +1,7 @@
 -- The rules and the orders of checks as the code goes through them, one test after another. Assumes nothing.
 --     sizes-width, sizes-height, sizes-channels     the three sizes
 --     strides-line .. strides-last           the strides
---     check-sizes .. check-taken             checks 1 to 4
+--     check-sizes .. check-valid             checks 1 to 4
 --     span-none .. box-columns               boxes
 --     Sizes, sizes                           what accepted sizes tell
 use Prim.Native.Nat.{ℕ, _+_, _-_, _*_, _%_, _^_, _≤_, _<_}
@@ -20,28 +20,28 @@ use Rattle.refusal.proofs.CheckLaws.{inOrder-nil, inOrder-next, inOrder-stop}
 use Rattle.layout.specs.declared.CubeLayout.{CubeLayout}
 use Rattle.layout.specs.declared.ElementBox.{ElementBox}
 use Rattle.layout.specs.Boxes.{spanInside, boxInside}
-use Rattle.refusal.specs.Sizes.{sizeTaken}
+use Rattle.refusal.specs.Sizes.{sizeValid}
 use Rattle.refusal.proofs.SizeLaws.{size-pos, size-le}
-use Rattle.layout.specs.Rules.{sizesTaken, wholeAtoms, stridesTaken, layoutChecks}
+use Rattle.layout.specs.Rules.{sizesValid, wholeAtoms, stridesValid, layoutChecks}
 use Rattle.refusal.proofs.TestLaws.{and-left, and-right}
 
 module _ (w h line surface : ℕ) where
-  pub strides-line : (line % 32 ≡ 0 → ⊥) → false ≡ stridesTaken w h line surface
-  unfolding stridesTaken wholeAtoms
+  pub strides-line : (line % 32 ≡ 0 → ⊥) → false ≡ stridesValid w h line surface
+  unfolding stridesValid wholeAtoms
   strides-line f = rw (ne-eqb (line % 32) 0 f)
 
   module _ (lines : line % 32 ≡ 0) where
-    pub strides-surface : (surface % 32 ≡ 0 → ⊥) → false ≡ stridesTaken w h line surface
-    unfolding stridesTaken wholeAtoms
+    pub strides-surface : (surface % 32 ≡ 0 → ⊥) → false ≡ stridesValid w h line surface
+    unfolding stridesValid wholeAtoms
     strides-surface f = rw (eq-eqb (line % 32) 0 lines, ne-eqb (surface % 32) 0 f)
 
     module _ (surfaces : surface % 32 ≡ 0) where
-      pub strides-short : line < 32 * w → false ≡ stridesTaken w h line surface
-      unfolding stridesTaken wholeAtoms
+      pub strides-short : line < 32 * w → false ≡ stridesValid w h line surface
+      unfolding stridesValid wholeAtoms
       strides-short i = rw (eq-eqb (line % 32) 0 lines, eq-eqb (surface % 32) 0 surfaces, lt-leb (32 * w) line i)
 
-      pub strides-last : 32 * w ≤ line → leb ((h - 1) * line + 32 * w) surface ≡ stridesTaken w h line surface
-      unfolding stridesTaken wholeAtoms
+      pub strides-last : 32 * w ≤ line → leb ((h - 1) * line + 32 * w) surface ≡ stridesValid w h line surface
+      unfolding stridesValid wholeAtoms
       strides-last i = rw (eq-eqb (line % 32) 0 lines, eq-eqb (surface % 32) 0 surfaces, le-leb (32 * w) line i)
 
 -- the lines of a surface, within 64 bits
@@ -49,16 +49,16 @@ pub lines-fit : (w h line : ℕ) → w ≤ 8192 → h ≤ 8192 → line < 2 ^ 32
 lines-fit w h line hw hh hl = omega (arith, mul-le-mul {n₁ = h - 1} {m₁ = line} {n₂ = 8192} {m₂ = 2 ^ 32} (omega arith) (omega arith))
 
 module _ (q : CubeLayout) where
-  pub sizes-width : sizeTaken 8192 (q .width) ≡ false → false ≡ sizesTaken q
-  unfolding sizesTaken
+  pub sizes-width : sizeValid 8192 (q .width) ≡ false → false ≡ sizesValid q
+  unfolding sizesValid
   sizes-width e = rw e
 
-  pub sizes-height : sizeTaken 8192 (q .width) ≡ true → sizeTaken 8192 (q .height) ≡ false → false ≡ sizesTaken q
-  unfolding sizesTaken
+  pub sizes-height : sizeValid 8192 (q .width) ≡ true → sizeValid 8192 (q .height) ≡ false → false ≡ sizesValid q
+  unfolding sizesValid
   sizes-height w e = rw (w, e)
 
-  pub sizes-channels : sizeTaken 8192 (q .width) ≡ true → sizeTaken 8192 (q .height) ≡ true → sizeTaken 8192 (q .channels) ≡ sizesTaken q
-  unfolding sizesTaken
+  pub sizes-channels : sizeValid 8192 (q .width) ≡ true → sizeValid 8192 (q .height) ≡ true → sizeValid 8192 (q .channels) ≡ sizesValid q
+  unfolding sizesValid
   sizes-channels w h = rw (w, h)
 
   -- what accepted sizes tell
@@ -67,12 +67,12 @@ module _ (q : CubeLayout) where
     pub height-pos : 0 < q .height
     pub height-le : q .height ≤ 8192
 
-  pub sizes : sizesTaken q ≡ true → Sizes
-  unfolding sizesTaken
+  pub sizes : sizesValid q ≡ true → Sizes
+  unfolding sizesValid
   sizes e =
-      let w = sizeTaken 8192 (q .width) in
-      let h = sizeTaken 8192 (q .height) in
-      let c = sizeTaken 8192 (q .channels) in
+      let w = sizeValid 8192 (q .width) in
+      let h = sizeValid 8192 (q .height) in
+      let c = sizeValid 8192 (q .channels) in
       let wh = and-left (w && h) c e in
       record {
         width-le = size-le 8192 (q .width) (and-left w h wh);
@@ -84,26 +84,26 @@ module _ (q : CubeLayout) where
   r4 = require CubeStart (wholeAtoms (q .start)) ∷ []
 
   r3 : List Answer
-  r3 = require CubeStrides (stridesTaken (q .width) (q .height) (q .line) (q .surface)) ∷ require CubeStart (wholeAtoms (q .start)) ∷ []
+  r3 = require CubeStrides (stridesValid (q .width) (q .height) (q .line) (q .surface)) ∷ require CubeStart (wholeAtoms (q .start)) ∷ []
 
   r2 : List Answer
-  r2 = require Precision (ltb (q .precision) 3) ∷ require CubeStrides (stridesTaken (q .width) (q .height) (q .line) (q .surface)) ∷ require CubeStart (wholeAtoms (q .start)) ∷ []
+  r2 = require Precision (ltb (q .precision) 3) ∷ require CubeStrides (stridesValid (q .width) (q .height) (q .line) (q .surface)) ∷ require CubeStart (wholeAtoms (q .start)) ∷ []
 
-  pub check-sizes : sizesTaken q ≡ false → Refused Size 0 ≡ inOrder (layoutChecks q)
+  pub check-sizes : sizesValid q ≡ false → Refused Size 0 ≡ inOrder (layoutChecks q)
   unfolding layoutChecks r2
   check-sizes e = sym (inOrder-stop 0 Size r2 e)
 
-  module _ (sz : sizesTaken q ≡ true) where
+  module _ (sz : sizesValid q ≡ true) where
     pub check-precision : 3 ≤ q .precision → Refused Precision 0 ≡ inOrder (layoutChecks q)
     unfolding layoutChecks r2 r3
     check-precision h = sym (inOrder-next 0 Size r2 sz ∙ inOrder-stop 0 Precision r3 (le-ltb (q .precision) 3 h))
 
     module _ (pr : q .precision < 3) where
-      pub check-strides : stridesTaken (q .width) (q .height) (q .line) (q .surface) ≡ false → Refused CubeStrides 0 ≡ inOrder (layoutChecks q)
+      pub check-strides : stridesValid (q .width) (q .height) (q .line) (q .surface) ≡ false → Refused CubeStrides 0 ≡ inOrder (layoutChecks q)
       unfolding layoutChecks r2 r3 r4
       check-strides e = sym (inOrder-next 0 Size r2 sz ∙ inOrder-next 0 Precision r3 (lt-ltb (q .precision) 3 pr) ∙ inOrder-stop 0 CubeStrides r4 e)
 
-      module _ (st : stridesTaken (q .width) (q .height) (q .line) (q .surface) ≡ true) where
+      module _ (st : stridesValid (q .width) (q .height) (q .line) (q .surface) ≡ true) where
         to-start : inOrder (layoutChecks q) ≡ inOrder r4
         unfolding layoutChecks r2 r3 r4
         to-start = inOrder-next 0 Size r2 sz ∙ inOrder-next 0 Precision r3 (lt-ltb (q .precision) 3 pr) ∙ inOrder-next 0 CubeStrides r4 st
@@ -112,9 +112,9 @@ module _ (q : CubeLayout) where
         unfolding r4 wholeAtoms
         check-start f = sym (to-start ∙ inOrder-stop 0 CubeStart [] (ne-eqb (q .start % 32) 0 f))
 
-        pub check-taken : q .start % 32 ≡ 0 → Accepted ≡ inOrder (layoutChecks q)
+        pub check-valid : q .start % 32 ≡ 0 → Accepted ≡ inOrder (layoutChecks q)
         unfolding r4 wholeAtoms
-        check-taken e = sym (to-start ∙ inOrder-next 0 CubeStart [] (eq-eqb (q .start % 32) 0 e) ∙ inOrder-nil)
+        check-valid e = sym (to-start ∙ inOrder-next 0 CubeStart [] (eq-eqb (q .start % 32) 0 e) ∙ inOrder-nil)
 
 -- ---- boxes
 pub span-none : (first count size : ℕ) → count < 1 → false ≡ spanInside first count size

@@ -16,7 +16,7 @@ use Rattle.elements.proofs.ByteLaws.{elementBytes-cases, elementBytes-pos}
 use Rattle.layout.specs.declared.CubeLayout.{CubeLayout}
 use Rattle.layout.specs.Geometry.{sizeOf, surfaces, elementPosition, atomPosition}
 use Rattle.layout.specs.Owners.{Owner, element, padding, outside, surfaceOf, rowOf, columnOf, byteInAtom, inAtom, atomOwner, owner}
-use Rattle.layout.proofs.Taken.{Taken}
+use Rattle.layout.proofs.Valid.{Valid}
 use Rattle.layout.proofs.Atoms.{atom-of, atom-owner, atom-inside}
 
 pub data View (q : CubeLayout) (p : ℕ) : Owner → Type 0 where
@@ -63,7 +63,7 @@ pub padding-owner : (q : CubeLayout) (s h w k : ℕ) → q .channels * sizeOf q 
 unfolding atomOwner
 padding-owner q s h w k e = rw (le-ltb (32 * s + k) (q .channels * sizeOf q) e)
 
-module _ (q : CubeLayout) (ok : Taken q) where
+module _ (q : CubeLayout) (ok : Valid q) where
   size-cases : (sizeOf q ≡ 1) ⊎ (sizeOf q ≡ 2)
   size-cases = elementBytes-cases (q .precision)
 

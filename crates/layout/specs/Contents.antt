@@ -33,12 +33,12 @@ unfoldable pub edited : CubeLayout → ElementBox → List ℤ → List ℕ → 
 edited q box elements before = remade (λ (p old : ℕ). editedByte box elements (owner q p) old) before
 
 -- the element (c, h, w) that a buffer holds
-unfoldable pub storedElement : CubeLayout → List ℕ → ℕ → ℕ → ℕ → ℤ
-storedElement q buffer c h w = elementAt (sizeOf q) buffer (elementPosition q c h w)
+unfoldable pub readElement : CubeLayout → List ℕ → ℕ → ℕ → ℕ → ℤ
+readElement q buffer c h w = elementAt (sizeOf q) buffer (elementPosition q c h w)
 
 -- the elements of a box that a buffer holds, in raw order over the box
 unfoldable pub boxElements : CubeLayout → ElementBox → List ℕ → List ℤ
-boxElements q box buffer = tabulate (boxCount box) (λ (i : ℕ). storedElement q buffer (channelAt box i) (rowAt box i) (columnAt box i))
+boxElements q box buffer = tabulate (boxCount box) (λ (i : ℕ). readElement q buffer (channelAt box i) (rowAt box i) (columnAt box i))
 
 -- the raw tensor that a buffer holds
 unfoldable pub unpacked : CubeLayout → List ℕ → List ℤ

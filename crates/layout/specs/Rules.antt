@@ -1,4 +1,4 @@
--- Which settings are taken, and the order in which they are checked (scope paper, "Cells and cubes", "Refusal numbers"). Assumes nothing.
+-- Which settings are valid, and the order in which they are checked (scope paper, "Cells and cubes", "Refusal numbers"). Assumes nothing.
 use Prim.Native.Nat.{ℕ, _+_, _-_, _*_, _%_}
 use mathlib.Core.Bool.{Bool, _&&_}
 use mathlib.Core.List.{List, [], _∷_, _++_}
@@ -6,15 +6,15 @@ use lib.Dec.{leb, ltb, eqb}
 use Rattle.refusal.specs.declared.Refusal.the-variants.{Size, Precision, CubeStrides, CubeStart, BufferLength, ElementCount, Bounds}
 use Rattle.refusal.specs.declared.Answer.{Answer}
 use Rattle.refusal.specs.Checks.{require}
-use Rattle.refusal.specs.Sizes.{sizeTaken}
+use Rattle.refusal.specs.Sizes.{sizeValid}
 use Rattle.layout.specs.declared.CubeLayout.{CubeLayout}
 use Rattle.layout.specs.declared.ElementBox.{ElementBox}
 use Rattle.layout.specs.Geometry.{elementCount, cubeExtent}
 use Rattle.layout.specs.Boxes.{boxCount, boxInside}
 
 -- width, height and channels, each 1 to 8192
-unfoldable pub sizesTaken : CubeLayout → Bool
-sizesTaken q = sizeTaken 8192 (q .width) && sizeTaken 8192 (q .height) && sizeTaken 8192 (q .channels)
+unfoldable pub sizesValid : CubeLayout → Bool
+sizesValid q = sizeValid 8192 (q .width) && sizeValid 8192 (q .height) && sizeValid 8192 (q .channels)
 
 -- a multiple of 32
 unfoldable pub wholeAtoms : ℕ → Bool
@@ -22,15 +22,15 @@ wholeAtoms n = eqb (n % 32) 0
 
 -- line and surface stride of a cube w wide and h high: multiples of 32; a line holds its atoms, and a surface its lines, the last one only up
 -- to its atoms' end
-unfoldable pub stridesTaken : ℕ → ℕ → ℕ → ℕ → Bool
-stridesTaken w h line surface = wholeAtoms line && wholeAtoms surface && leb (32 * w) line && leb ((h - 1) * line + 32 * w) surface
+unfoldable pub stridesValid : ℕ → ℕ → ℕ → ℕ → Bool
+stridesValid w h line surface = wholeAtoms line && wholeAtoms surface && leb (32 * w) line && leb ((h - 1) * line + 32 * w) surface
 
 -- 1 to 4: sizes, precision, strides, start
 unfoldable pub layoutChecks : CubeLayout → List Answer
 layoutChecks q =
-    require Size (sizesTaken q)
+    require Size (sizesValid q)
     ∷ require Precision (ltb (q .precision) 3)
-    ∷ require CubeStrides (stridesTaken (q .width) (q .height) (q .line) (q .surface))
+    ∷ require CubeStrides (stridesValid (q .width) (q .height) (q .line) (q .surface))
     ∷ require CubeStart (wholeAtoms (q .start))
     ∷ []
 

@@ -46,13 +46,13 @@ pub fn span_inside(first: u32, count: u32, size: u32) -> bool
 pub fn check(layout: CubeLayout) -> Answer
     ensures { λ r. ⌜ r ≡ inOrder (layoutChecks layout) ⌝ }
 {
-    if !rules::sizes_taken(layout) {
+    if !rules::sizes_valid(layout) {
         return Answer::Refused(Refusal::Size, 0);
     }
     if 3 <= layout.precision {
         return Answer::Refused(Refusal::Precision, 0);
     }
-    if !rules::strides_taken(layout.width, layout.height, layout.line, layout.surface) {
+    if !rules::strides_valid(layout.width, layout.height, layout.line, layout.surface) {
         return Answer::Refused(Refusal::CubeStrides, 0);
     }
     if layout.start % 32 != 0 {
@@ -66,34 +66,34 @@ pub fn extent(layout: CubeLayout) -> Quantity
     ensures { λ r. ⌜ r ≡ extentQuantity layout ⌝ }
 {
     match check(layout) {
-        Answer::Refused(refusal, at) => Quantity::Denied(refusal, at),
+        Answer::Refused(refusal, at) => Quantity::Refused(refusal, at),
         Answer::Accepted => Quantity::Is(measure::extent_bytes(layout)),
     }
 }
 
 // Checks 1 to 4, 9.
-pub fn check_box(layout: CubeLayout, area: ElementBox) -> Answer
-    ensures { λ r. ⌜ r ≡ inOrder (boxChecks layout area) ⌝ }
+pub fn check_box(layout: CubeLayout, b: ElementBox) -> Answer
+    ensures { λ r. ⌜ r ≡ inOrder (boxChecks layout b) ⌝ }
 {
     let a = check(layout);
     let Answer::Accepted = a else {
         return a;
     };
-    if !rules::box_inside(layout, area) {
+    if !rules::box_inside(layout, b) {
         return Answer::Refused(Refusal::Bounds, 0);
     }
     Answer::Accepted
 }
 
 // Checks 1 to 4, 9, 6, 5 of a call that lends `given` elements for a box and a buffer of `len` bytes.
-pub fn admit(layout: CubeLayout, area: ElementBox, given: usize, len: usize) -> Answer
-    ensures { λ r. ⌜ r ≡ inOrder (admitChecks layout area given len) ⌝ }
+pub fn admit(layout: CubeLayout, b: ElementBox, given: usize, len: usize) -> Answer
+    ensures { λ r. ⌜ r ≡ inOrder (admitChecks layout b given len) ⌝ }
 {
-    let a = check_box(layout, area);
+    let a = check_box(layout, b);
     let Answer::Accepted = a else {
         return a;
     };
-    if given as u64 != measure::box_count(area) {
+    if given as u64 != measure::box_count(b) {
         return Answer::Refused(Refusal::ElementCount, 0);
     }
     if (len as u64) < measure::end(layout) {

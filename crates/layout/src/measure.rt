@@ -37,9 +37,9 @@ pub(crate) fn end(layout: CubeLayout) -> u64
 }
 
 // The elements of a box.
-pub(crate) fn box_count(area: ElementBox) -> u64
-    requires { ⌜ (area .channels ≤ 8192) × (area .rows ≤ 8192) × (area .columns ≤ 8192) ⌝ }
-    ensures { λ r. ⌜ r ≡ boxCount area ⌝ }
+pub(crate) fn box_count(b: ElementBox) -> u64
+    requires { ⌜ (b .channels ≤ 8192) × (b .rows ≤ 8192) × (b .columns ≤ 8192) ⌝ }
+    ensures { λ r. ⌜ r ≡ boxCount b ⌝ }
 {
-    area.channels as u64 * area.rows as u64 * area.columns as u64
+    b.channels as u64 * b.rows as u64 * b.columns as u64
 }

@@ -8,7 +8,7 @@
 --     CollectLaws  one call of `collect`, in terms of the lines of the whole input
 --     DigitLaws    decimal digits, how many there are, and written from the last one on
 --     DecimalLaws  decimal digits are the number's
---     Statements   lines, numbers and digits, computed
+--     Computed   lines, numbers and digits, computed
 pub mod SplitLaws
 pub mod TextLaws
 pub mod NumberLaws
@@ -18,4 +18,4 @@ pub mod HoldLaws
 pub mod CollectLaws
 pub mod DigitLaws
 pub mod DecimalLaws
-pub mod Statements
+pub mod Computed

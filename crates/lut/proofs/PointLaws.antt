@@ -22,17 +22,17 @@ use Rattle.integers.proofs.Ranges.{within-take, fits-within, within-fits}
 use Rattle.integers.proofs.Casts.{cast-value}
 use Rattle.lut.specs.declared.Slope.{Slope}
 use Rattle.lut.specs.Tables.{entry}
-use Rattle.lut.specs.Rules.{shiftTaken}
+use Rattle.lut.specs.Rules.{shiftValid}
 use Rattle.lut.specs.StepsPoints.{slopeRise, Stored, Filled}
 use Rattle.lut.proofs.NumberLaws.{between-abs, nat-within, ud-fits}
 
 -- ---- a slope's rise
 
-pub shift-ud : (shift : ℤ) → shiftTaken shift ≡ true → (up shift ≤ 15) × (dn shift ≤ 16)
-unfolding shiftTaken
+pub shift-ud : (shift : ℤ) → shiftValid shift ≡ true → (up shift ≤ 15) × (dn shift ≤ 16)
+unfolding shiftValid
 shift-ud shift t = between-abs 15 15 shift t
 
-pub rise-le : (shift : ℤ) → shiftTaken shift ≡ true → 2 ^ dn shift ≤ 65536
+pub rise-le : (shift : ℤ) → shiftValid shift ≡ true → 2 ^ dn shift ≤ 65536
 rise-le shift t = pow-le-pow-right {n = 2} (lit< tt) {i = dn shift} {j = 16} (shift-ud shift t .1)
 
 abbrev from : ℤ → ℤ

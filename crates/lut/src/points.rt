@@ -3,14 +3,14 @@ ghost use mathlib.Core.Path.{_≡_};
 ghost use mathlib.Core.Bool.{true};
 ghost use Prim.Native.Nat.{_+_, _≤_, _<_};
 ghost use lib.ListN.{length, set};
-ghost use Rattle.lut.specs.Rules.{shiftTaken};
+ghost use Rattle.lut.specs.Rules.{shiftValid};
 ghost use Rattle.lut.specs.StepsPoints.{slopeRise, Filled};
 use crate::Slope;
 use crate::numbers;
 
 // How far a slope rises at each step of its row.
 fn rise(s: Slope) -> i32
-    requires { ⌜ shiftTaken (s .shift) ≡ true ⌝ }
+    requires { ⌜ shiftValid (s .shift) ≡ true ⌝ }
     ensures { λ r. ⌜ r ≡ slopeRise s ⌝ }
 {
     let scale = s.scale;
@@ -38,7 +38,7 @@ pub(crate) fn fill(
     above: Slope,
 )
     requires { ⌜ (length (now firsts) ≡ 324) × (length (now rises) ≡ 324) × (base + last ≤ 322) × (last < length (now table)) ⌝ }
-    requires { ⌜ (shiftTaken (below .shift) ≡ true) × (shiftTaken (above .shift) ≡ true) ⌝ }
+    requires { ⌜ (shiftValid (below .shift) ≡ true) × (shiftValid (above .shift) ≡ true) ⌝ }
     ensures { λ _. ⌜ Filled (now (firsts .entry)) (now (rises .entry)) (now (firsts .exit)) (now (rises .exit)) (now (table .entry)) base last below above ⌝ }
 {
     let mut i: usize = 0;

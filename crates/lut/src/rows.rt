@@ -3,7 +3,7 @@ ghost use mathlib.Core.Path.{_≡_};
 ghost use mathlib.Core.Bool.{true};
 ghost use Prim.Native.Nat.{_+_, _≤_};
 ghost use lib.IntN.{natAbs};
-ghost use Rattle.lut.specs.Rules.{modeTaken};
+ghost use Rattle.lut.specs.Rules.{modeValid};
 ghost use Rattle.lut.specs.StepsRows.{slopeRow, lineRow, powerRow, linearRows, rowsX, picked, rowsOf};
 use crate::LutSettings;
 use crate::Row;
@@ -80,7 +80,7 @@ pub(crate) fn linear_rows(t: YSettings, base: usize, last: usize) -> TableRows
 
 // The rows of the X table.
 pub(crate) fn rows_x(s: XSettings) -> TableRows
-    requires { ⌜ modeTaken (s .mode) ≡ true ⌝ }
+    requires { ⌜ modeValid (s .mode) ≡ true ⌝ }
     ensures { λ r. ⌜ r ≡ rowsX s ⌝ }
 {
     let mode = s.mode;

@@ -4,10 +4,10 @@
 --     StoreLaws    words stored one after another
 --     TableLaws    a table stored as words is read back as that table
 --     PlaceLaws    a placing changes the words of its slot alone
---     Statements   tables, states and counters come back from their words
+--     Claims   tables, states and counters come back from their words
 pub mod AnswerLaws
 pub mod WordLaws
 pub mod StoreLaws
 pub mod TableLaws
 pub mod PlaceLaws
-pub mod Statements
+pub mod Claims

@@ -5,25 +5,25 @@ use lib.IntN.{ℤ}
 use Rattle.refusal.specs.declared.Answer.{Answer}
 use Rattle.refusal.specs.declared.Answer.the-variants.{Accepted, Refused}
 use Rattle.refusal.specs.declared.Quantity.{Quantity}
-use Rattle.refusal.specs.declared.Quantity.the-variants.{Is, Denied}
-use Rattle.refusal.specs.Codes.{answerCode, answerPlace}
+use Rattle.refusal.specs.declared.Quantity.the-variants.{Is, Refused as NotGiven}
+use Rattle.refusal.specs.Codes.{answerCode, faultIndex}
 use Rattle.quantize.specs.declared.Quantized.{Quantized}
-use Rattle.quantize.specs.declared.Quantized.the-variants.{Value, Denied as NotConverted}
+use Rattle.quantize.specs.declared.Quantized.the-variants.{Value, Refused as NotConverted}
 
 -- the number returned and the place stored are an answer's
 pub record Answered (answer : Answer) (code place : ℕ) : Type 0 where
   pub coded : code ≡ answerCode answer
-  pub placed : place ≡ answerPlace answer
+  pub placed : place ≡ faultIndex answer
 
 -- a quantity's answer: accepted where there is one
 abbrev pub quantityAnswer : Quantity → Answer
 quantityAnswer (Is n) = Accepted
-quantityAnswer (Denied r at) = Refused r at
+quantityAnswer (NotGiven r at) = Refused r at
 
 -- the value stored: the quantity, or as it was where there is none
 abbrev pub quantityOver : Quantity → ℕ → ℕ
 quantityOver (Is n) before = n
-quantityOver (Denied r at) before = before
+quantityOver (NotGiven r at) before = before
 
 -- the number returned, the value stored and the place stored are a quantity's
 pub record Valued (quantity : Quantity) (before code value place : ℕ) : Type 0 where

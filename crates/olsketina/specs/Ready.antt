@@ -13,7 +13,7 @@ use Rattle.lut.specs.declared.LutSettings.{LutSettings}
 use Rattle.camera.specs.declared.Choice.{Choice}
 use Rattle.camera.specs.declared.Choice.the-variants.{Unnamed, Named}
 use Rattle.camera.specs.declared.Ready.{Ready}
-use Rattle.camera.specs.declared.Ready.the-variants.{Setting, Denied}
+use Rattle.camera.specs.declared.Ready.the-variants.{Setting, Refused as NotGiven}
 
 -- a priority bit: 0 names X, 1 names Y, any other word leaves it unnamed
 unfoldable pub choiceNamed : ℕ → Choice
@@ -52,12 +52,12 @@ priorityWords s = tableWord (s .priority) ∷ tableWord (s .overflow) ∷ tableW
 -- its answer
 abbrev pub readyGiven : Ready → Answer
 readyGiven (Setting s) = Accepted
-readyGiven (Denied r at) = Refused r at
+readyGiven (NotGiven r at) = Refused r at
 
 -- words made of the settings, or as they were where there are none
 abbrev pub readyOver : {A : Type 0} → (LutSettings → A) → Ready → A → A
 readyOver made (Setting s) before = made s
-readyOver made (Denied r at) before = before
+readyOver made (NotGiven r at) before = before
 
 -- the five arrays after the call are those words
 pub record ReadyStored (ready : Ready) (x y scales shifts : List ℤ) (priorities : List ℕ) (x' y' scales' shifts' : List ℤ) (priorities' : List ℕ) : Type 0 where

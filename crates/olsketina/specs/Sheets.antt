@@ -1,7 +1,7 @@
 -- A sheet's state, rows and records as arrays of words (include/olsketina.h). Any contents are a state. Assumes nothing.
 use Prim.Native.Nat.{ℕ, _+_, _*_, _/_, _%_}
 use mathlib.Core.List.{List, [], _∷_}
-use Rattle.refusal.specs.Codes.{answerCode, answerPlace}
+use Rattle.refusal.specs.Codes.{answerCode, faultIndex}
 use Rattle.records.specs.declared.Record.{Record}
 use Rattle.records.specs.declared.Record.the-variants.{Frame, Stall, Cell, Unreadable}
 use Rattle.script.specs.declared.Sheet.{Sheet}
@@ -26,7 +26,7 @@ withSheet s l = withTable (s .table) 4 (withWords (progressWords s (word l 3)) 0
 -- 1, the line's number, answer, place and value; all 0 where no line ended
 unfoldable pub rowWords : Given → List ℕ
 rowWords Nothing = 0 ∷ 0 ∷ 0 ∷ 0 ∷ 0 ∷ []
-rowWords (Line row) = 1 ∷ row .line ∷ answerCode (row .answer) ∷ answerPlace (row .answer) ∷ row .value ∷ []
+rowWords (Line row) = 1 ∷ row .line ∷ answerCode (row .answer) ∷ faultIndex (row .answer) ∷ row .value ∷ []
 
 -- its kind, then its numbers, the rest 0
 unfoldable pub recordWords : Record → List ℕ

@@ -9,7 +9,7 @@ use refusal::Quantity;
 pub(crate) fn give(answer: Answer, place: &mut usize) -> u32
     ensures { λ r. ⌜ Answered answer r (now (place .exit)) ⌝ }
 {
-    *place = refusal::answer_place(answer);
+    *place = refusal::fault_index(answer);
     refusal::answer_code(answer)
 }
 
@@ -23,7 +23,7 @@ pub(crate) fn give_quantity(quantity: Quantity, value: &mut u64, place: &mut usi
             *place = 0;
             0
         }
-        Quantity::Denied(refusal, at) => {
+        Quantity::Refused(refusal, at) => {
             *place = at;
             refusal::code(refusal)
         }
@@ -40,7 +40,7 @@ pub(crate) fn give_converted(converted: Quantized, value: &mut i16, place: &mut 
             *place = 0;
             0
         }
-        Quantized::Denied(refusal, at) => {
+        Quantized::Refused(refusal, at) => {
             *place = at;
             refusal::code(refusal)
         }

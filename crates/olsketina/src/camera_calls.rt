@@ -70,7 +70,7 @@ fn put_ready(
     ensures stored { λ r. ⌜ ReadyStored ready (now (x .entry)) (now (y .entry)) (now (scales .entry)) (now (shifts .entry)) (now (priorities .entry)) (now (x .exit)) (now (y .exit)) (now (scales .exit)) (now (shifts .exit)) (now (priorities .exit)) ⌝ }
 {
     match ready {
-        Ready::Denied(refusal, at) => answers::give(Answer::Refused(refusal, at), place),
+        Ready::Refused(refusal, at) => answers::give(Answer::Refused(refusal, at), place),
         Ready::Setting(s) => {
             *x = lut_words::x_words(s);
             *y = lut_words::y_words(s);

@@ -41,20 +41,15 @@ pub extern "C" fn olsketina_cube_unpack(
 #[no_mangle]
 pub extern "C" fn olsketina_cube_write_box(
     layout: &[u32; 7],
-    area: &[u32; 6],
+    b: &[u32; 6],
     elements: &[i16],
     buffer: &mut [u8],
     place: &mut usize,
 ) -> u32
-    ensures answered { λ r. ⌜ Answered (writeBoxAnswer (layoutFrom (now (layout .entry))) (boxFrom (now (area .entry))) (now (elements .entry)) (length (now (buffer .entry)))) r (now (place .exit)) ⌝ }
-    ensures left { λ r. ⌜ now (buffer .exit) ≡ writeBoxBuffer (layoutFrom (now (layout .entry))) (boxFrom (now (area .entry))) (now (elements .entry)) (now (buffer .entry)) ⌝ }
+    ensures answered { λ r. ⌜ Answered (writeBoxAnswer (layoutFrom (now (layout .entry))) (boxFrom (now (b .entry))) (now (elements .entry)) (length (now (buffer .entry)))) r (now (place .exit)) ⌝ }
+    ensures left { λ r. ⌜ now (buffer .exit) ≡ writeBoxBuffer (layoutFrom (now (layout .entry))) (boxFrom (now (b .entry))) (now (elements .entry)) (now (buffer .entry)) ⌝ }
 {
-    let written = cube::write_box(
-        words::layout_of(layout),
-        words::box_of(area),
-        elements,
-        buffer,
-    );
+    let written = cube::write_box(words::layout_of(layout), words::box_of(b), elements, buffer);
     answers::give(written, place)
 }
 
@@ -62,20 +57,15 @@ pub extern "C" fn olsketina_cube_write_box(
 #[no_mangle]
 pub extern "C" fn olsketina_cube_read_box(
     layout: &[u32; 7],
-    area: &[u32; 6],
+    b: &[u32; 6],
     buffer: &[u8],
     elements: &mut [i16],
     place: &mut usize,
 ) -> u32
-    ensures answered { λ r. ⌜ Answered (readBoxAnswer (layoutFrom (now (layout .entry))) (boxFrom (now (area .entry))) (length (now (elements .entry))) (length (now (buffer .entry)))) r (now (place .exit)) ⌝ }
-    ensures left { λ r. ⌜ now (elements .exit) ≡ readBoxElements (layoutFrom (now (layout .entry))) (boxFrom (now (area .entry))) (now (buffer .entry)) (now (elements .entry)) ⌝ }
+    ensures answered { λ r. ⌜ Answered (readBoxAnswer (layoutFrom (now (layout .entry))) (boxFrom (now (b .entry))) (length (now (elements .entry))) (length (now (buffer .entry)))) r (now (place .exit)) ⌝ }
+    ensures left { λ r. ⌜ now (elements .exit) ≡ readBoxElements (layoutFrom (now (layout .entry))) (boxFrom (now (b .entry))) (now (buffer .entry)) (now (elements .entry)) ⌝ }
 {
-    let read = cube::read_box(
-        words::layout_of(layout),
-        words::box_of(area),
-        buffer,
-        elements,
-    );
+    let read = cube::read_box(words::layout_of(layout), words::box_of(b), buffer, elements);
     answers::give(read, place)
 }
 

@@ -2,7 +2,7 @@
 ghost use mathlib.Core.Path.{_≡_};
 ghost use Prim.Native.Nat.{_+_, _*_};
 ghost use Rattle.refusal.specs.Checks.{inOrder};
-ghost use Rattle.refusal.specs.Sizes.{sizeTaken};
+ghost use Rattle.refusal.specs.Sizes.{sizeValid};
 ghost use Rattle.elements.specs.Bytes.{elementBytes, byteOf, signed};
 ghost use Rattle.elements.specs.Values.{valueChecks};
 ghost use Rattle.integers.specs.Saturate.{saturate};
@@ -70,10 +70,10 @@ pub extern "C" fn olsketina_integers_saturate(x: i64, low: i64, high: i64) -> i6
     integers::saturate(x, low, high)
 }
 
-// refusal::size_taken
+// refusal::size_valid
 #[no_mangle]
-pub extern "C" fn olsketina_refusal_size_taken(most: u32, n: u32) -> bool
-    ensures { λ r. ⌜ r ≡ sizeTaken most n ⌝ }
+pub extern "C" fn olsketina_refusal_size_valid(most: u32, n: u32) -> bool
+    ensures { λ r. ⌜ r ≡ sizeValid most n ⌝ }
 {
-    refusal::size_taken(most, n)
+    refusal::size_valid(most, n)
 }

@@ -35,12 +35,12 @@ pub extern "C" fn olsketina_layout_extent(
 #[no_mangle]
 pub extern "C" fn olsketina_layout_check_box(
     layout: &[u32; 7],
-    area: &[u32; 6],
+    b: &[u32; 6],
     place: &mut usize,
 ) -> u32
-    ensures { λ r. ⌜ Answered (inOrder (boxChecks (layoutFrom (now (layout .entry))) (boxFrom (now (area .entry))))) r (now (place .exit)) ⌝ }
+    ensures { λ r. ⌜ Answered (inOrder (boxChecks (layoutFrom (now (layout .entry))) (boxFrom (now (b .entry))))) r (now (place .exit)) ⌝ }
 {
-    let inside = layout::check_box(words::layout_of(layout), words::box_of(area));
+    let inside = layout::check_box(words::layout_of(layout), words::box_of(b));
     answers::give(inside, place)
 }
 
@@ -48,14 +48,14 @@ pub extern "C" fn olsketina_layout_check_box(
 #[no_mangle]
 pub extern "C" fn olsketina_layout_admit(
     layout: &[u32; 7],
-    area: &[u32; 6],
+    b: &[u32; 6],
     given: usize,
     length: usize,
     place: &mut usize,
 ) -> u32
-    ensures { λ r. ⌜ Answered (inOrder (admitChecks (layoutFrom (now (layout .entry))) (boxFrom (now (area .entry))) given length)) r (now (place .exit)) ⌝ }
+    ensures { λ r. ⌜ Answered (inOrder (admitChecks (layoutFrom (now (layout .entry))) (boxFrom (now (b .entry))) given length)) r (now (place .exit)) ⌝ }
 {
-    let admitted = layout::admit(words::layout_of(layout), words::box_of(area), given, length);
+    let admitted = layout::admit(words::layout_of(layout), words::box_of(b), given, length);
     answers::give(admitted, place)
 }
 

@@ -54,16 +54,16 @@ pub extern "C" fn olsketina_regions_place(
 pub extern "C" fn olsketina_regions_edit(
     table: &[u32; 87],
     slot: u32,
-    area: &[u32; 6],
+    b: &[u32; 6],
     elements: &[i16],
     buffer: &mut [u8],
     place: &mut usize,
 ) -> u32
-    ensures answered { λ r. ⌜ Answered (editAnswer (tableAt (now (table .entry)) 0) slot (boxFrom (now (area .entry))) (now (elements .entry)) (length (now (buffer .entry)))) r (now (place .exit)) ⌝ }
-    ensures left { λ r. ⌜ now (buffer .exit) ≡ editBuffer (tableAt (now (table .entry)) 0) slot (boxFrom (now (area .entry))) (now (elements .entry)) (now (buffer .entry)) ⌝ }
+    ensures answered { λ r. ⌜ Answered (editAnswer (tableAt (now (table .entry)) 0) slot (boxFrom (now (b .entry))) (now (elements .entry)) (length (now (buffer .entry)))) r (now (place .exit)) ⌝ }
+    ensures left { λ r. ⌜ now (buffer .exit) ≡ editBuffer (tableAt (now (table .entry)) 0) slot (boxFrom (now (b .entry))) (now (elements .entry)) (now (buffer .entry)) ⌝ }
 {
     let t = tables::table_at(table, 0);
-    let o = regions::edit(t, slot, words::box_of(area), elements, buffer);
+    let o = regions::edit(t, slot, words::box_of(b), elements, buffer);
     let answer = o.answer;
     answers::give(answer, place)
 }
@@ -73,16 +73,16 @@ pub extern "C" fn olsketina_regions_edit(
 pub extern "C" fn olsketina_regions_read(
     table: &[u32; 87],
     slot: u32,
-    area: &[u32; 6],
+    b: &[u32; 6],
     buffer: &[u8],
     elements: &mut [i16],
     place: &mut usize,
 ) -> u32
-    ensures answered { λ r. ⌜ Answered (readAnswer (tableAt (now (table .entry)) 0) slot (boxFrom (now (area .entry))) (length (now (elements .entry))) (length (now (buffer .entry)))) r (now (place .exit)) ⌝ }
-    ensures left { λ r. ⌜ now (elements .exit) ≡ readElements (tableAt (now (table .entry)) 0) slot (boxFrom (now (area .entry))) (now (buffer .entry)) (now (elements .entry)) ⌝ }
+    ensures answered { λ r. ⌜ Answered (readAnswer (tableAt (now (table .entry)) 0) slot (boxFrom (now (b .entry))) (length (now (elements .entry))) (length (now (buffer .entry)))) r (now (place .exit)) ⌝ }
+    ensures left { λ r. ⌜ now (elements .exit) ≡ readElements (tableAt (now (table .entry)) 0) slot (boxFrom (now (b .entry))) (now (buffer .entry)) (now (elements .entry)) ⌝ }
 {
     let t = tables::table_at(table, 0);
-    let o = regions::read(t, slot, words::box_of(area), buffer, elements);
+    let o = regions::read(t, slot, words::box_of(b), buffer, elements);
     let answer = o.answer;
     answers::give(answer, place)
 }

@@ -65,7 +65,7 @@ pub(crate) fn row_words(given: Given) -> [u64; 5]
                 1,
                 row.line,
                 refusal::answer_code(answer) as u64,
-                refusal::answer_place(answer) as u64,
+                refusal::fault_index(answer) as u64,
                 row.value,
             ]
         }

@@ -4,13 +4,13 @@ use Prim.Native.Nat.{ℕ}
 use mathlib.Core.Path.{_≡_, refl}
 use mathlib.Core.List.{[], _∷_, map}
 use Rattle.refusal.specs.declared.Refusal.the-variants.{PixelStrides, PixelOutside}
-use Rattle.refusal.specs.declared.Quantity.the-variants.{Is, Denied}
+use Rattle.refusal.specs.declared.Quantity.the-variants.{Is, Refused as NotGiven}
 use Rattle.refusal.specs.Codes.{answerCode}
-use Rattle.refusal.specs.Checks.{requireAt, inOrder, quantity}
-use Rattle.refusal.specs.Sizes.{sizeTaken}
+use Rattle.refusal.specs.Checks.{requireAt, inOrder, quantity, result}
+use Rattle.refusal.specs.Sizes.{sizeValid}
 use Rattle.pixels.specs.declared.PixelSetting.{PixelSetting}
 use Rattle.pixels.specs.Formats.{formatTable, formatIn, formatOf}
-use Rattle.pixels.specs.Settings.{kindTaken, stridesTaken, settingChecks, settingAnswer, pixelPosition, positionQuantity}
+use Rattle.pixels.specs.Settings.{kindValid, stridesValid, settingChecks, settingAnswer, pixelPosition, positionQuantity}
 
 -- format, width, height, channels, precision, X offset, start, line
 abbrev image : ℕ → ℕ → ℕ → ℕ → ℕ → ℕ → ℕ → ℕ → PixelSetting
@@ -30,7 +30,7 @@ abbrev answer : PixelSetting → ℕ
 answer q = answerCode (settingAnswer q)
 
 pub record Computed : Type 0 where
-  -- T_R8 is taken; a line holds its pixels exactly
+  -- T_R8 is valid; a line holds its pixels exactly
   pub accepted : map answer (image 0 3 2 1 0 31 64 64 ∷ image 0 33 1 1 0 31 0 64 ∷ image 8 4 2 4 2 0 0 32 ∷ image 16 1 1 4 0 7 0 32 ∷ []) ≡ 0 ∷ 0 ∷ 0 ∷ 0 ∷ []
   -- one fault each: 19; width, height; channels, precision; X offset; start, line, a line one pixel short
   pub single : map answer (image 17 3 2 1 0 31 64 64 ∷ image 0 0 2 1 0 31 64 64 ∷ image 0 3 8193 1 0 31 64 64 ∷ image 0 3 2 2 0 31 64 64 ∷ image 0 3 2 1 1 31 64 64 ∷ image 0 3 2 1 0 32 64 64 ∷ image 0 3 2 1 0 31 16 64 ∷ image 0 3 2 1 0 31 64 48 ∷ image 0 34 2 1 0 31 64 64 ∷ [])
@@ -42,11 +42,11 @@ pub record Computed : Type 0 where
   -- pixel (2, 1) of T_A8B8G8R8 with X offset 3: 64 + 96 + 5 · 4; the offset is counted in pixels
   pub position : positionQuantity (image 12 3 2 4 0 3 64 96) 2 1 ≡ Is 180
   -- a pixel outside, by its column and by its row; 22 and 23 at once
-  pub column : positionQuantity (image 12 3 2 4 0 3 64 96) 3 1 ≡ Denied PixelOutside 0
-  pub row : positionQuantity (image 12 3 2 4 0 3 64 96) 2 2 ≡ Denied PixelOutside 0
-  pub strides : positionQuantity (image 12 3 2 4 0 3 16 96) 3 1 ≡ Denied PixelStrides 0
+  pub column : positionQuantity (image 12 3 2 4 0 3 64 96) 3 1 ≡ NotGiven PixelOutside 0
+  pub row : positionQuantity (image 12 3 2 4 0 3 64 96) 2 2 ≡ NotGiven PixelOutside 0
+  pub strides : positionQuantity (image 12 3 2 4 0 3 16 96) 3 1 ≡ NotGiven PixelStrides 0
 
 pub computed : Computed
-unfolding requireAt inOrder quantity sizeTaken formatTable formatIn formatOf kindTaken stridesTaken settingChecks settingAnswer pixelPosition positionQuantity
+unfolding requireAt inOrder result sizeValid formatTable formatIn formatOf kindValid stridesValid settingChecks settingAnswer pixelPosition positionQuantity
 computed =
     record { accepted = refl; single = refl; double = refl; rows = refl; position = refl; column = refl; row = refl; strides = refl }

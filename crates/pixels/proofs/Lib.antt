@@ -3,13 +3,13 @@
 --     FormatLaws      a table of formats by one test of all its entries; bytes a pixel
 --     RuleLaws        the rules as the code goes through them
 --     SettingLaws     the checks as the code goes through them
---     Taken           an accepted setting meets the paper's rules, and back
+--     Valid           an accepted setting meets the paper's rules, and back
 --     PositionLaws    a pixel inside its line, its own bytes, its position within 64 bits
 --     Places          the statements about settings and pixels' places
 pub mod Computed
 pub mod FormatLaws
 pub mod RuleLaws
 pub mod SettingLaws
-pub mod Taken
+pub mod Valid
 pub mod PositionLaws
-pub mod Places
+pub mod Claims

@@ -1,5 +1,5 @@
 -- The checks as the code goes through them, one after another: 19, 1, 20, 21, 22 of a setting, and 23 of a pixel. Assumes nothing.
---     check-format .. check-taken            a setting, up to the first check that fails
+--     check-format .. check-valid            a setting, up to the first check that fails
 --     position-refused .. position-is        a pixel of a refused setting, outside, and inside the image
 use Prim.Native.Nat.{ℕ, _≤_, _<_}
 use mathlib.Core.Path.{_≡_, sym, _∙_}
@@ -9,13 +9,13 @@ use borrow.Author.Tests.{lt-ltb, le-ltb, le-leb, lt-leb}
 use Rattle.refusal.specs.declared.Answer.the-variants.{Accepted, Refused}
 use Rattle.refusal.specs.declared.Refusal.{Refusal}
 use Rattle.refusal.specs.declared.Refusal.the-variants.{Size, PixelFormat as FormatCode, PixelKind, XOffset, PixelStrides, PixelOutside}
-use Rattle.refusal.specs.declared.Quantity.the-variants.{Is, Denied}
+use Rattle.refusal.specs.declared.Quantity.the-variants.{Is, Refused as NotGiven}
 use Rattle.refusal.specs.Checks.{require, inOrder}
-use Rattle.refusal.proofs.CheckLaws.{inOrder-nil, inOrder-next, inOrder-stop, inOrder-passed, inOrder-refused, quantity-is, quantity-denied}
+use Rattle.refusal.proofs.CheckLaws.{inOrder-nil, inOrder-next, inOrder-stop, inOrder-passed, inOrder-refused, result-given, result-refused}
 use Rattle.pixels.specs.declared.PixelSetting.{PixelSetting}
 use Rattle.pixels.specs.Formats.{formatOf}
-use Rattle.refusal.specs.Sizes.{sizeTaken}
-use Rattle.pixels.specs.Settings.{kindTaken, stridesTaken, settingChecks, settingAnswer, pixelPosition, positionQuantity}
+use Rattle.refusal.specs.Sizes.{sizeValid}
+use Rattle.pixels.specs.Settings.{kindValid, stridesValid, settingChecks, settingAnswer, pixelPosition, positionQuantity}
 
 -- ---- the checks, in their order
 
@@ -25,17 +25,17 @@ module _ (q : PixelSetting) where
   check-format h = sym (inOrder-stop 0 FormatCode _ (lt-leb (q .format) 16 h))
 
   module _ (known : q .format ≤ 16) where
-    pub check-width : sizeTaken 8192 (q .width) ≡ false → Refused Size 0 ≡ settingAnswer q
+    pub check-width : sizeValid 8192 (q .width) ≡ false → Refused Size 0 ≡ settingAnswer q
     unfolding settingAnswer settingChecks
     check-width e = sym (inOrder-next 0 FormatCode _ (le-leb (q .format) 16 known) ∙ inOrder-stop 0 Size _ (rw e))
 
-    module _ (wide : sizeTaken 8192 (q .width) ≡ true) where
-      pub check-height : sizeTaken 8192 (q .height) ≡ false → Refused Size 0 ≡ settingAnswer q
+    module _ (wide : sizeValid 8192 (q .width) ≡ true) where
+      pub check-height : sizeValid 8192 (q .height) ≡ false → Refused Size 0 ≡ settingAnswer q
       unfolding settingAnswer settingChecks
       check-height e = sym (inOrder-next 0 FormatCode _ (le-leb (q .format) 16 known) ∙ inOrder-stop 0 Size _ (rw (wide, e)))
 
-      module _ (high : sizeTaken 8192 (q .height) ≡ true) where
-        pub check-kind : kindTaken q ≡ false → Refused PixelKind 0 ≡ settingAnswer q
+      module _ (high : sizeValid 8192 (q .height) ≡ true) where
+        pub check-kind : kindValid q ≡ false → Refused PixelKind 0 ≡ settingAnswer q
         unfolding settingAnswer settingChecks
         check-kind e =
             sym
@@ -43,7 +43,7 @@ module _ (q : PixelSetting) where
             ∙ inOrder-next 0 Size _ (rw (wide, high))
             ∙ inOrder-stop 0 PixelKind _ e)
 
-        module _ (kind : kindTaken q ≡ true) where
+        module _ (kind : kindValid q ≡ true) where
           pub check-offset : formatOf (q .format) .offsets < q .offset → Refused XOffset 0 ≡ settingAnswer q
           unfolding settingAnswer settingChecks
           check-offset h =
@@ -54,7 +54,7 @@ module _ (q : PixelSetting) where
               ∙ inOrder-stop 0 XOffset _ (lt-leb (q .offset) (formatOf (q .format) .offsets) h))
 
           module _ (shifted : q .offset ≤ formatOf (q .format) .offsets) where
-            to-strides : settingAnswer q ≡ inOrder (require PixelStrides (stridesTaken q) ∷ [])
+            to-strides : settingAnswer q ≡ inOrder (require PixelStrides (stridesValid q) ∷ [])
             unfolding settingAnswer settingChecks
             to-strides =
                 inOrder-next 0 FormatCode _ (le-leb (q .format) 16 known)
@@ -62,30 +62,30 @@ module _ (q : PixelSetting) where
                 ∙ inOrder-next 0 PixelKind _ kind
                 ∙ inOrder-next 0 XOffset _ (le-leb (q .offset) (formatOf (q .format) .offsets) shifted)
 
-            pub check-strides : stridesTaken q ≡ false → Refused PixelStrides 0 ≡ settingAnswer q
+            pub check-strides : stridesValid q ≡ false → Refused PixelStrides 0 ≡ settingAnswer q
             check-strides e = sym (to-strides ∙ inOrder-stop 0 PixelStrides [] e)
 
-            pub check-taken : stridesTaken q ≡ true → Accepted ≡ settingAnswer q
-            check-taken e = sym (to-strides ∙ inOrder-next 0 PixelStrides [] e ∙ inOrder-nil)
+            pub check-valid : stridesValid q ≡ true → Accepted ≡ settingAnswer q
+            check-valid e = sym (to-strides ∙ inOrder-next 0 PixelStrides [] e ∙ inOrder-nil)
 
 -- ---- check 23, and the position
 
 module _ (q : PixelSetting) (x y : ℕ) where
-  pub position-refused : {r : Refusal} {i : ℕ} → settingAnswer q ≡ Refused r i → Denied r i ≡ positionQuantity q x y
+  pub position-refused : {r : Refusal} {i : ℕ} → settingAnswer q ≡ Refused r i → NotGiven r i ≡ positionQuantity q x y
   unfolding positionQuantity settingAnswer
-  position-refused e = sym (quantity-denied _ (inOrder-refused (settingChecks q) _ e))
+  position-refused e = sym (result-refused _ _ _ (inOrder-refused (settingChecks q) _ e))
 
   module _ (ok : settingAnswer q ≡ Accepted) where
-    pub position-x : q .width ≤ x → Denied PixelOutside 0 ≡ positionQuantity q x y
+    pub position-x : q .width ≤ x → NotGiven PixelOutside 0 ≡ positionQuantity q x y
     unfolding positionQuantity settingAnswer
-    position-x h = sym (quantity-denied _ (inOrder-passed (settingChecks q) _ ok ∙ inOrder-stop 0 PixelOutside _ (rw (le-ltb x (q .width) h))))
+    position-x h = sym (result-refused _ _ _ (inOrder-passed (settingChecks q) _ ok ∙ inOrder-stop 0 PixelOutside _ (rw (le-ltb x (q .width) h))))
 
     module _ (inside : x < q .width) where
-      pub position-y : q .height ≤ y → Denied PixelOutside 0 ≡ positionQuantity q x y
+      pub position-y : q .height ≤ y → NotGiven PixelOutside 0 ≡ positionQuantity q x y
       unfolding positionQuantity settingAnswer
       position-y h =
           sym
-          (quantity-denied _
+          (result-refused _ _ _
           (inOrder-passed (settingChecks q) _ ok
           ∙ inOrder-stop 0 PixelOutside _ (rw (lt-ltb x (q .width) inside, le-ltb y (q .height) h))))
 
@@ -93,7 +93,7 @@ module _ (q : PixelSetting) (x y : ℕ) where
       unfolding positionQuantity settingAnswer
       position-is h =
           sym
-          (quantity-is _
+          (result-given _ _ _
           (inOrder-passed (settingChecks q) _ ok
           ∙ inOrder-next 0 PixelOutside _ (rw (lt-ltb x (q .width) inside, lt-ltb y (q .height) h))
           ∙ inOrder-nil))

@@ -37,20 +37,20 @@ pub fn setting(image: PixelSetting) -> Answer
     if 16 < image.format {
         return Answer::Refused(Refusal::PixelFormat, 0);
     }
-    if !refusal::size_taken(8192, image.width) {
+    if !refusal::size_valid(8192, image.width) {
         return Answer::Refused(Refusal::Size, 0);
     }
-    if !refusal::size_taken(8192, image.height) {
+    if !refusal::size_valid(8192, image.height) {
         return Answer::Refused(Refusal::Size, 0);
     }
     let format = table::format_of(image.format);
-    if !rules::kind_taken(image, format) {
+    if !rules::kind_valid(image, format) {
         return Answer::Refused(Refusal::PixelKind, 0);
     }
     if format.offsets < image.offset {
         return Answer::Refused(Refusal::XOffset, 0);
     }
-    if !rules::strides_taken(image, format.bytes) {
+    if !rules::strides_valid(image, format.bytes) {
         return Answer::Refused(Refusal::PixelStrides, 0);
     }
     Answer::Accepted
@@ -72,13 +72,13 @@ pub fn position(image: PixelSetting, x: u32, y: u32) -> Quantity
     ensures { λ r. ⌜ r ≡ positionQuantity image x y ⌝ }
 {
     match setting(image) {
-        Answer::Refused(refusal, at) => Quantity::Denied(refusal, at),
+        Answer::Refused(refusal, at) => Quantity::Refused(refusal, at),
         Answer::Accepted => {
             if image.width <= x {
-                return Quantity::Denied(Refusal::PixelOutside, 0);
+                return Quantity::Refused(Refusal::PixelOutside, 0);
             }
             if image.height <= y {
-                return Quantity::Denied(Refusal::PixelOutside, 0);
+                return Quantity::Refused(Refusal::PixelOutside, 0);
             }
             Quantity::Is(pixel_start(image, x, y))
         }

@@ -1,14 +1,14 @@
 // The rules behind the checks, one function each.
 ghost use mathlib.Core.Path.{_≡_};
 ghost use Rattle.pixels.specs.Formats.{formatOf};
-ghost use Rattle.pixels.specs.Settings.{pixelBytes, kindTaken, stridesTaken};
+ghost use Rattle.pixels.specs.Settings.{pixelBytes, kindValid, stridesValid};
 use crate::PixelFormat;
 use crate::PixelSetting;
 
 // Channels and precision are the format's.
-pub(crate) fn kind_taken(image: PixelSetting, format: PixelFormat) -> bool
+pub(crate) fn kind_valid(image: PixelSetting, format: PixelFormat) -> bool
     requires { ⌜ format ≡ formatOf (image .format) ⌝ }
-    ensures { λ r. ⌜ r ≡ kindTaken image ⌝ }
+    ensures { λ r. ⌜ r ≡ kindValid image ⌝ }
 {
     if image.channels != format.channels {
         return false;
@@ -17,9 +17,9 @@ pub(crate) fn kind_taken(image: PixelSetting, format: PixelFormat) -> bool
 }
 
 // Start and line are multiples of 32, and a line holds its pixels.
-pub(crate) fn strides_taken(image: PixelSetting, bytes: u32) -> bool
+pub(crate) fn strides_valid(image: PixelSetting, bytes: u32) -> bool
     requires { ⌜ bytes ≡ pixelBytes image ⌝ }
-    ensures { λ r. ⌜ r ≡ stridesTaken image ⌝ }
+    ensures { λ r. ⌜ r ≡ stridesValid image ⌝ }
 {
     if image.start % 32 != 0 {
         return false;

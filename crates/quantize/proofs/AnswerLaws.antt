@@ -3,7 +3,7 @@
 --     saturated-value, quantized-fits       the converted value from the scaled one; it fits 16 bits
 --     answer-precision .. answer-value      the checks, one after another
 use Prim.Native.Nat.{ℕ, zero, suc, _^_, _≤_, _<_}
-use mathlib.Core.Path.{_≡_, refl, _∙_}
+use mathlib.Core.Path.{_≡_, sym, refl, _∙_}
 use lib.IntN.{ℤ, pos, negsuc, _-ℤ_, _*ℤ_}
 use lib.Signed.{shrZ}
 use borrow.Author.Tests.{lt-ltb, le-ltb, le-leb, lt-leb}
@@ -14,11 +14,11 @@ use Rattle.refusal.specs.declared.Answer.the-variants.{Accepted, Refused}
 use Rattle.refusal.specs.declared.Refusal.{Refusal}
 use Rattle.refusal.specs.declared.Refusal.the-variants.{Precision, Shift}
 use Rattle.refusal.specs.Checks.{inOrder}
-use Rattle.refusal.proofs.CheckLaws.{inOrder-nil, inOrder-next, inOrder-stop}
+use Rattle.refusal.proofs.CheckLaws.{inOrder-nil, inOrder-next, inOrder-stop, result-given, result-refused}
 use Rattle.integers.specs.Saturate.{saturate}
 use Rattle.integers.proofs.SaturateLaws.{fits-saturate}
-use Rattle.quantize.specs.declared.Quantized.the-variants.{Value, Denied}
-use Rattle.quantize.specs.Quantize.{lowest, highest, quantizeChecks, quantized, valueOr, quantizeAnswer}
+use Rattle.quantize.specs.declared.Quantized.the-variants.{Value, Refused as NotGiven}
+use Rattle.quantize.specs.Quantize.{lowest, highest, quantizeChecks, quantized, quantizeAnswer}
 
 -- ---- the limits
 
@@ -63,20 +63,20 @@ module _ (d offset scale : ℤ) (shift precision : ℕ) where
   unfolding quantized
   quantized-fits = fits-saturate (shrZ ((d -ℤ offset) *ℤ scale) (2 ^ shift)) (lowest-fits precision) (highest-fits precision)
 
-  refused : {r : Refusal} → inOrder (quantizeChecks precision shift) ≡ Refused r 0 → Denied r 0 ≡ quantizeAnswer d offset scale shift precision
-  unfolding quantizeAnswer valueOr
-  refused e = rw e
+  refused : {r : Refusal} → inOrder (quantizeChecks precision shift) ≡ Refused r 0 → NotGiven r 0 ≡ quantizeAnswer d offset scale shift precision
+  unfolding quantizeAnswer
+  refused e = sym (result-refused _ _ _ e)
 
   accepted : inOrder (quantizeChecks precision shift) ≡ Accepted → Value (quantized d offset scale shift precision) ≡ quantizeAnswer d offset scale shift precision
-  unfolding quantizeAnswer valueOr
-  accepted e = rw e
+  unfolding quantizeAnswer
+  accepted e = sym (result-given _ _ _ e)
 
-  pub answer-precision : 2 ≤ precision → Denied Precision 0 ≡ quantizeAnswer d offset scale shift precision
+  pub answer-precision : 2 ≤ precision → NotGiven Precision 0 ≡ quantizeAnswer d offset scale shift precision
   unfolding quantizeChecks
   answer-precision h = refused (inOrder-stop 0 Precision _ (le-ltb precision 2 h))
 
   module _ (known : precision < 2) where
-    pub answer-shift : 31 < shift → Denied Shift 0 ≡ quantizeAnswer d offset scale shift precision
+    pub answer-shift : 31 < shift → NotGiven Shift 0 ≡ quantizeAnswer d offset scale shift precision
     unfolding quantizeChecks
     answer-shift h = refused (inOrder-next 0 Precision _ (lt-ltb precision 2 known) ∙ inOrder-stop 0 Shift _ (lt-leb shift 31 h))
 

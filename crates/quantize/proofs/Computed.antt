@@ -2,10 +2,10 @@
 use mathlib.Core.Path.{_≡_, refl}
 use lib.IntN.{pos, negsuc}
 use Rattle.refusal.specs.declared.Refusal.the-variants.{Precision, Shift}
-use Rattle.refusal.specs.Checks.{requireAt, inOrder}
+use Rattle.refusal.specs.Checks.{requireAt, inOrder, result}
 use Rattle.integers.specs.Saturate.{saturate}
-use Rattle.quantize.specs.declared.Quantized.the-variants.{Value, Denied}
-use Rattle.quantize.specs.Quantize.{lowest, highest, quantizeChecks, quantized, valueOr, quantizeAnswer}
+use Rattle.quantize.specs.declared.Quantized.the-variants.{Value, Refused as NotGiven}
+use Rattle.quantize.specs.Quantize.{lowest, highest, quantizeChecks, quantized, quantizeAnswer}
 
 pub record Computed : Type 0 where
   -- 100, offset 128, SF 3, shift 2: −84 over 4 is −21; 101 gives −81 over 4, rounded down: −21, not −20
@@ -17,10 +17,10 @@ pub record Computed : Type 0 where
   pub wide : quantizeAnswer (pos 40000) (pos 0) (pos 1) 0 1 ≡ Value (pos 32767)
   pub low : quantizeAnswer (negsuc 40000) (pos 0) (pos 1) 0 1 ≡ Value (negsuc 32767)
   -- 2 before 16
-  pub both : quantizeAnswer (pos 0) (pos 0) (pos 0) 32 2 ≡ Denied Precision 0
-  pub shift : quantizeAnswer (pos 0) (pos 0) (pos 0) 32 1 ≡ Denied Shift 0
+  pub both : quantizeAnswer (pos 0) (pos 0) (pos 0) 32 2 ≡ NotGiven Precision 0
+  pub shift : quantizeAnswer (pos 0) (pos 0) (pos 0) 32 1 ≡ NotGiven Shift 0
 
 pub computed : Computed
-unfolding requireAt inOrder saturate lowest highest quantizeChecks quantized valueOr quantizeAnswer
+unfolding requireAt inOrder saturate lowest highest quantizeChecks quantized result quantizeAnswer
 computed =
     record { paper = refl; floor = refl; saturated = refl; after = refl; wide = refl; low = refl; both = refl; shift = refl }

@@ -6,11 +6,10 @@ use lib.IntN.{ℤ, pos, negsuc, _-ℤ_, _*ℤ_}
 use lib.Signed.{shrZ}
 use Rattle.refusal.specs.declared.Refusal.the-variants.{Precision, Shift}
 use Rattle.refusal.specs.declared.Answer.{Answer}
-use Rattle.refusal.specs.declared.Answer.the-variants.{Accepted, Refused}
-use Rattle.refusal.specs.Checks.{require, inOrder}
+use Rattle.refusal.specs.Checks.{require, inOrder, result}
 use Rattle.integers.specs.Saturate.{saturate}
 use Rattle.quantize.specs.declared.Quantized.{Quantized}
-use Rattle.quantize.specs.declared.Quantized.the-variants.{Value, Denied}
+use Rattle.quantize.specs.declared.Quantized.the-variants.{Value, Refused as NotGiven}
 
 -- the limits of a precision: -128..127 for int8, -32768..32767 for int16
 unfoldable pub lowest : ℕ → ℤ
@@ -30,9 +29,5 @@ unfoldable pub quantized : ℤ → ℤ → ℤ → ℕ → ℕ → ℤ
 quantized d offset scale shift precision = saturate (lowest precision) (highest precision) (shrZ ((d -ℤ offset) *ℤ scale) (2 ^ shift))
 
 -- the value where the call is accepted, else its refusal
-unfoldable pub valueOr : Answer → ℤ → Quantized
-valueOr Accepted z = Value z
-valueOr (Refused r at) z = Denied r at
-
 unfoldable pub quantizeAnswer : ℤ → ℤ → ℤ → ℕ → ℕ → Quantized
-quantizeAnswer d offset scale shift precision = valueOr (inOrder (quantizeChecks precision shift)) (quantized d offset scale shift precision)
+quantizeAnswer d offset scale shift precision = result Value NotGiven (inOrder (quantizeChecks precision shift)) (quantized d offset scale shift precision)

@@ -9,7 +9,7 @@ use refusal::Refusal;
 // The converted value, or refused with the index at fault.
 pub enum Quantized {
     Value(i16),
-    Denied(Refusal, usize),
+    Refused(Refusal, usize),
 }
 
 // The least value of a precision.
@@ -48,10 +48,10 @@ pub fn convert(d: i32, offset: i16, scale: i16, shift: u32, precision: u32) -> Q
     ensures { λ r. ⌜ r ≡ quantizeAnswer d offset scale shift precision ⌝ }
 {
     if 2 <= precision {
-        return Quantized::Denied(Refusal::Precision, 0);
+        return Quantized::Refused(Refusal::Precision, 0);
     }
     if 31 < shift {
-        return Quantized::Denied(Refusal::Shift, 0);
+        return Quantized::Refused(Refusal::Shift, 0);
     }
     Quantized::Value(value(d, offset, scale, shift, precision))
 }

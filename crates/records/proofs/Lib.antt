@@ -1,5 +1,5 @@
 -- Laws of the definitions of specs/.
 --     LineLaws     a line's record, from its fields, and from the line that was collected
---     Statements   lines and their records, computed
+--     Computed   lines and their records, computed
 pub mod LineLaws
-pub mod Statements
+pub mod Computed

@@ -4,17 +4,19 @@
 --     inOrder-passed, inOrder-refused     the first part of a list passed, or was refused
 --     inOrder-same                        two first parts with one answer
 --     inOrder-held, inOrder-rest          an accepted list: its first check held, and the rest is accepted
+--     inOrder-all, requireAt-held         an accepted list: every check held
 --     leaves-done, leaves-before          what a call leaves, by its answer
---     quantity-is, quantity-denied        the number that a call gives, by its answer
+--     leaves-ap, leaves-same              a part of what a call leaves
+--     result-given, result-refused        what a call gives, by its answer
 use Prim.Native.Nat.{ℕ}
+use native.Mathlib.Omega.{arith}
 use mathlib.Core.Path.{_≡_, refl, sym, _∙_}
 use mathlib.Core.Bool.{Bool, true, false}
 use mathlib.Core.List.{List, [], _∷_, _++_}
 use Rattle.refusal.specs.declared.Refusal.{Refusal}
 use Rattle.refusal.specs.declared.Answer.{Answer}
 use Rattle.refusal.specs.declared.Answer.the-variants.{Accepted, Refused}
-use Rattle.refusal.specs.declared.Quantity.the-variants.{Is, Denied}
-use Rattle.refusal.specs.Checks.{requireAt, inOrder, leaves, quantity}
+use Rattle.refusal.specs.Checks.{requireAt, inOrder, leaves, result}
 
 pub requireAt-true : (i : ℕ) (r : Refusal) {b : Bool} → b ≡ true → requireAt i r b ≡ Accepted
 unfolding requireAt
@@ -78,6 +80,22 @@ pub inOrder-same : (xs ys zs : List Answer) (a : Answer) → inOrder xs ≡ a �
 inOrder-same xs ys zs Accepted p q = inOrder-passed xs zs p ∙ sym (inOrder-passed ys zs q)
 inOrder-same xs ys zs (Refused r i) p q = inOrder-refused xs zs p ∙ sym (inOrder-refused ys zs q)
 
+-- ---- every check of an accepted list held
+unfoldable pub Held : List Answer → Type 0
+Held [] = Unit {0}
+Held (a ∷ rest) = (a ≡ Accepted) × Held rest
+
+pub inOrder-all : (checks : List Answer) → inOrder checks ≡ Accepted → Held checks
+unfolding Held inOrder
+inOrder-all [] e = tt
+inOrder-all (Accepted ∷ rest) e = (refl, inOrder-all rest e)
+inOrder-all (Refused r i ∷ rest) e = absurd (let z : _≡_ {A = ℕ} 0 1 = cc in omega arith)
+
+pub requireAt-held : (i : ℕ) (r : Refusal) (b : Bool) → requireAt i r b ≡ Accepted → b ≡ true
+unfolding requireAt
+requireAt-held i r true e = refl
+requireAt-held i r false e = cc
+
 pub leaves-done : {A : Type 0} {a : Answer} (done before : A) → a ≡ Accepted → leaves a done before ≡ done
 unfolding leaves
 leaves-done done before e = rw e
@@ -86,10 +104,20 @@ pub leaves-before : {A : Type 0} {a : Answer} {r : Refusal} {i : ℕ} (done befo
 unfolding leaves
 leaves-before done before e = rw e
 
-pub quantity-is : {a : Answer} (n : ℕ) → a ≡ Accepted → quantity a n ≡ Is n
-unfolding quantity
-quantity-is n e = rw e
+pub leaves-ap : {A B : Type 0} (f : A → B) (a : Answer) (done before : A) → f (leaves a done before) ≡ leaves a (f done) (f before)
+unfolding leaves
+leaves-ap f Accepted done before = refl
+leaves-ap f (Refused r i) done before = refl
 
-pub quantity-denied : {a : Answer} {r : Refusal} {i : ℕ} (n : ℕ) → a ≡ Refused r i → quantity a n ≡ Denied r i
-unfolding quantity
-quantity-denied n e = rw e
+pub leaves-same : {A : Type 0} (a : Answer) (x : A) → leaves a x x ≡ x
+unfolding leaves
+leaves-same Accepted x = refl
+leaves-same (Refused r i) x = refl
+
+pub result-given : {A R : Type 0} (given : A → R) (refused : Refusal → ℕ → R) {a : Answer} (v : A) → a ≡ Accepted → result given refused a v ≡ given v
+unfolding result
+result-given given refused v e = rw e
+
+pub result-refused : {A R : Type 0} (given : A → R) (refused : Refusal → ℕ → R) {a : Answer} {r : Refusal} {i : ℕ} (v : A) → a ≡ Refused r i → result given refused a v ≡ refused r i
+unfolding result
+result-refused given refused v e = rw e

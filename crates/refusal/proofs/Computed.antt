@@ -4,10 +4,10 @@ use mathlib.Core.Bool.{true, false}
 use mathlib.Core.List.{[], _∷_}
 use Rattle.refusal.specs.declared.Refusal.the-variants.{Size, Int8Range, Slot, Overlap}
 use Rattle.refusal.specs.declared.Answer.the-variants.{Accepted, Refused}
-use Rattle.refusal.specs.declared.Quantity.the-variants.{Is, Denied}
-use Rattle.refusal.specs.Codes.{answerCode, answerPlace}
-use Rattle.refusal.specs.Checks.{require, requireAt, inOrder, leaves, quantity}
-use Rattle.refusal.specs.Sizes.{sizeTaken}
+use Rattle.refusal.specs.declared.Quantity.the-variants.{Is, Refused as NotGiven}
+use Rattle.refusal.specs.Codes.{answerCode, faultIndex}
+use Rattle.refusal.specs.Checks.{require, requireAt, inOrder, leaves, quantity, result}
+use Rattle.refusal.specs.Sizes.{sizeValid}
 
 pub record Computed : Type 0 where
   -- of two checks that fail the first is told, with its own index
@@ -16,20 +16,20 @@ pub record Computed : Type 0 where
   -- a refused call leaves what was there before, and gives no number
   pub kept : leaves (Refused Size 0) true false ≡ false
   pub done : leaves Accepted true false ≡ true
-  pub denied : quantity (Refused Slot 0) 5 ≡ Denied Slot 0
+  pub denied : quantity (Refused Slot 0) 5 ≡ NotGiven Slot 0
   pub given : quantity Accepted 5 ≡ Is 5
   -- the paper's number and place
   pub overlap : answerCode (Refused Overlap 0) ≡ 10
-  pub none : answerPlace Accepted ≡ 0
-  pub place : answerPlace (Refused Int8Range 5) ≡ 5
+  pub none : faultIndex Accepted ≡ 0
+  pub place : faultIndex (Refused Int8Range 5) ≡ 5
   -- sizes are 1 to 8192
-  pub zero : sizeTaken 8192 0 ≡ false
-  pub least : sizeTaken 8192 1 ≡ true
-  pub most : sizeTaken 8192 8192 ≡ true
-  pub past : sizeTaken 8192 8193 ≡ false
+  pub zero : sizeValid 8192 0 ≡ false
+  pub least : sizeValid 8192 1 ≡ true
+  pub most : sizeValid 8192 8192 ≡ true
+  pub past : sizeValid 8192 8193 ≡ false
 
 pub computed : Computed
-unfolding requireAt inOrder leaves quantity sizeTaken
+unfolding requireAt inOrder leaves result sizeValid
 computed =
     record {
       first = refl;

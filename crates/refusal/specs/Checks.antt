@@ -6,7 +6,7 @@ use Rattle.refusal.specs.declared.Refusal.{Refusal}
 use Rattle.refusal.specs.declared.Answer.{Answer}
 use Rattle.refusal.specs.declared.Answer.the-variants.{Accepted, Refused}
 use Rattle.refusal.specs.declared.Quantity.{Quantity}
-use Rattle.refusal.specs.declared.Quantity.the-variants.{Is, Denied}
+use Rattle.refusal.specs.declared.Quantity.the-variants.{Is, Refused as NotGiven}
 
 -- one check, at an index of the caller's elements: refused unless the test holds
 unfoldable pub requireAt : ℕ → Refusal → Bool → Answer
@@ -28,7 +28,11 @@ unfoldable pub leaves : {A : Type 0} → Answer → A → A → A
 leaves Accepted done before = done
 leaves (Refused r at) done before = before
 
--- the number that a call gives where it was accepted, else its refusal
-unfoldable pub quantity : Answer → ℕ → Quantity
-quantity Accepted n = Is n
-quantity (Refused r at) n = Denied r at
+-- what a call gives: a value where it was accepted, else its refusal, each as its type of results says it
+unfoldable pub result : {A R : Type 0} → (A → R) → (Refusal → ℕ → R) → Answer → A → R
+result given refused Accepted v = given v
+result given refused (Refused r at) v = refused r at
+
+-- where the value is a number
+abbrev pub quantity : Answer → ℕ → Quantity
+quantity a n = result Is NotGiven a n

@@ -62,6 +62,6 @@ answerCode Accepted = 0
 answerCode (Refused r at) = codeOf r
 
 -- the index at fault, 0 where the call was accepted (the paper's "place")
-abbrev pub answerPlace : Answer → ℕ
-answerPlace Accepted = 0
-answerPlace (Refused r at) = at
+abbrev pub faultIndex : Answer → ℕ
+faultIndex Accepted = 0
+faultIndex (Refused r at) = at

@@ -4,5 +4,5 @@ use mathlib.Core.Bool.{Bool, _&&_}
 use lib.Dec.{leb}
 
 -- 1 to `most`
-unfoldable pub sizeTaken : ℕ → ℕ → Bool
-sizeTaken most n = leb 1 n && leb n most
+unfoldable pub sizeValid : ℕ → ℕ → Bool
+sizeValid most n = leb 1 n && leb n most

@@ -1,7 +1,7 @@
 // Why a call was refused, and what a call answers (scope paper, "Refusal numbers").
 ghost use mathlib.Core.Path.{_≡_};
-ghost use Rattle.refusal.specs.Codes.{codeOf, answerCode, answerPlace};
-ghost use Rattle.refusal.specs.Sizes.{sizeTaken};
+ghost use Rattle.refusal.specs.Codes.{codeOf, answerCode, faultIndex};
+ghost use Rattle.refusal.specs.Sizes.{sizeValid};
 
 // One variant for each row of the paper's table; `code` gives the row's number.
 pub enum Refusal {
@@ -40,7 +40,7 @@ pub enum Answer {
 // A number, or refused with the index at fault.
 pub enum Quantity {
     Is(u64),
-    Denied(Refusal, usize),
+    Refused(Refusal, usize),
 }
 
 // The paper's number of a refusal.
@@ -86,8 +86,8 @@ pub fn answer_code(a: Answer) -> u32
 }
 
 // The index at fault: 0 where the call was accepted.
-pub fn answer_place(a: Answer) -> usize
-    ensures { λ n. ⌜ n ≡ answerPlace a ⌝ }
+pub fn fault_index(a: Answer) -> usize
+    ensures { λ n. ⌜ n ≡ faultIndex a ⌝ }
 {
     match a {
         Answer::Accepted => 0,
@@ -95,9 +95,9 @@ pub fn answer_place(a: Answer) -> usize
     }
 }
 
-// Whether a size is taken: 1 to `most`.
-pub fn size_taken(most: u32, n: u32) -> bool
-    ensures { λ r. ⌜ r ≡ sizeTaken most n ⌝ }
+// Whether a size is valid: 1 to `most`.
+pub fn size_valid(most: u32, n: u32) -> bool
+    ensures { λ r. ⌜ r ≡ sizeValid most n ⌝ }
 {
     if n < 1 {
         return false;

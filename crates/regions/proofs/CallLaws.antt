@@ -15,14 +15,14 @@ use Rattle.refusal.specs.declared.Answer.{Answer}
 use Rattle.refusal.specs.declared.Answer.the-variants.{Accepted, Refused}
 use Rattle.refusal.specs.declared.Refusal.{Refusal}
 use Rattle.refusal.specs.Checks.{inOrder}
-use Rattle.refusal.proofs.CheckLaws.{inOrder-front, inOrder-back, inOrder-passed, leaves-done, leaves-before, quantity-is}
+use Rattle.refusal.proofs.CheckLaws.{inOrder-front, inOrder-back, inOrder-passed, leaves-done, leaves-before, result-given}
 use Rattle.elements.specs.Values.{valueChecks}
 use Rattle.layout.specs.declared.CubeLayout.{CubeLayout}
 use Rattle.layout.specs.declared.ElementBox.{ElementBox}
 use Rattle.layout.specs.Boxes.{oneElement, boxCount}
 use Rattle.layout.specs.Rules.{boxChecks, storageChecks, admitChecks}
 use Rattle.layout.specs.Calls.{writeBoxAnswer, writeBoxBuffer, readBoxAnswer, readBoxElements, positionQuantity}
-use Rattle.layout.proofs.BoxLaws.{taken-box}
+use Rattle.layout.proofs.BoxLaws.{valid-box}
 use Rattle.layout.proofs.CallLaws as layout
 use Rattle.regions.specs.declared.Rectangle.{Rectangle}
 use Rattle.regions.specs.declared.RegionTable.{RegionTable}
@@ -45,7 +45,7 @@ module _ (q : CubeLayout) (slots : List Slot) (n : ℕ) (b : ElementBox) where
   box-passes : inOrder (regionBoxChecks q slots n b) ≡ Accepted → inOrder (boxChecks q (cubeBox (rectangleAt slots n) b)) ≡ Accepted
   box-passes ok =
       let v = box-accepted q slots n b ok in
-      sym (layout.box-accepted q (cubeBox (rectangleAt slots n) b) (v .slot .checked) (taken-box q (cubeBox (rectangleAt slots n) b) (v .box)))
+      sym (layout.box-accepted q (cubeBox (rectangleAt slots n) b) (v .slot .checked) (valid-box q (cubeBox (rectangleAt slots n) b) (v .box)))
 
   after-9 : (rest : List Answer) → inOrder (regionBoxChecks q slots n b) ≡ Accepted
       → inOrder (boxChecks q (cubeBox (rectangleAt slots n) b) ++ rest) ≡ inOrder (regionBoxChecks q slots n b ++ rest)
@@ -99,4 +99,4 @@ pub position-is : (t : RegionTable) (n c h w : ℕ) {box : ElementBox} → box �
     → inOrder (regionBoxChecks (t .layout) (slotsOf t) n (oneElement c h w)) ≡ Accepted
     → positionQuantity (t .layout) (box .channel) (box .row) (box .column) ≡ regionPosition t n c h w
 unfolding regionPosition positionQuantity
-position-is t n c h w moved ok = rw moved (quantity-is _ (box-passes (t .layout) (slotsOf t) n (oneElement c h w) ok) ∙ sym (quantity-is _ ok))
+position-is t n c h w moved ok = rw moved (result-given _ _ _ (box-passes (t .layout) (slotsOf t) n (oneElement c h w) ok) ∙ sym (result-given _ _ _ ok))

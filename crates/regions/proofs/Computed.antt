@@ -9,18 +9,18 @@ use Rattle.refusal.specs.declared.Refusal.the-variants.{Int8Range}
 use Rattle.refusal.specs.declared.Answer.the-variants.{Refused}
 use Rattle.refusal.specs.declared.Quantity.the-variants.{Is}
 use Rattle.refusal.specs.Codes.{answerCode}
-use Rattle.refusal.specs.Checks.{requireAt, inOrder, leaves, quantity}
-use Rattle.refusal.specs.Sizes.{sizeTaken}
+use Rattle.refusal.specs.Checks.{requireAt, inOrder, leaves, quantity, result}
+use Rattle.refusal.specs.Sizes.{sizeValid}
 use Rattle.elements.specs.Bytes.{elementBytes, byteOf, wordAt, signed, elementAt}
 use Rattle.elements.specs.Lists.{remadeFrom, remade, tabulateFrom, tabulate}
-use Rattle.elements.specs.Values.{valueTaken, valueCheck, valueChecksFrom, valueChecks}
+use Rattle.elements.specs.Values.{valueValid, valueCheck, valueChecksFrom, valueChecks}
 use Rattle.layout.specs.declared.CubeLayout.{CubeLayout}
 use Rattle.layout.specs.declared.ElementBox.{ElementBox}
 use Rattle.layout.specs.Geometry.{layoutOf, surfaces, elementPosition, cubeExtent}
 use Rattle.layout.specs.Boxes.{oneElement, boxCount, spanInside, spanHas, boxHas, boxIndex, channelAt, rowAt, columnAt}
-use Rattle.layout.specs.Rules.{sizesTaken, wholeAtoms, stridesTaken, layoutChecks, storageChecks}
+use Rattle.layout.specs.Rules.{sizesValid, wholeAtoms, stridesValid, layoutChecks, storageChecks}
 use Rattle.layout.specs.Owners.{surfaceOf, rowOf, columnOf, byteInAtom, inAtom, atomOwner, owner}
-use Rattle.layout.specs.Contents.{editedByte, edited, storedElement, boxElements}
+use Rattle.layout.specs.Contents.{editedByte, edited, readElement, boxElements}
 use Rattle.regions.specs.declared.Rectangle.{Rectangle}
 use Rattle.regions.specs.declared.Region.{Region}
 use Rattle.regions.specs.declared.RegionTable.{RegionTable}
@@ -81,7 +81,7 @@ pub record Computed : Type 0 where
   pub refused : readElements small 0 (oneElement 0 0 1) (replicate 64 9) (pos 200 ∷ []) ≡ pos 200 ∷ []
 
 pub computed : Computed
-unfolding requireAt inOrder leaves quantity sizeTaken elementBytes byteOf wordAt signed elementAt remadeFrom remade tabulateFrom tabulate valueTaken valueCheck valueChecksFrom valueChecks surfaces elementPosition cubeExtent boxCount spanInside spanHas boxHas boxIndex channelAt rowAt columnAt sizesTaken wholeAtoms stridesTaken layoutChecks storageChecks surfaceOf rowOf columnOf byteInAtom inAtom atomOwner owner editedByte edited storedElement boxElements slotOf slotsOf rectangleHas occupied anyFrom overlaps rectangleInside slotAt isFilled rectangleOf placeChecks boxInRectangle slotChecks regionBoxChecks readChecks editChecks placeAnswer placeTable editAnswer editBuffer readAnswer readElements regionPosition
+unfolding requireAt inOrder leaves result sizeValid elementBytes byteOf wordAt signed elementAt remadeFrom remade tabulateFrom tabulate valueValid valueCheck valueChecksFrom valueChecks surfaces elementPosition cubeExtent boxCount spanInside spanHas boxHas boxIndex channelAt rowAt columnAt sizesValid wholeAtoms stridesValid layoutChecks storageChecks surfaceOf rowOf columnOf byteInAtom inAtom atomOwner owner editedByte edited readElement boxElements slotOf slotsOf rectangleHas occupied anyFrom overlaps rectangleInside slotAt isFilled rectangleOf placeChecks boxInRectangle slotChecks regionBoxChecks readChecks editChecks placeAnswer placeTable editAnswer editBuffer readAnswer readElements regionPosition
 computed =
     record {
       placings = refl;

@@ -15,8 +15,8 @@ use Rattle.layout.specs.declared.CubeLayout.{CubeLayout}
 use Rattle.layout.specs.declared.ElementBox.{ElementBox}
 use Rattle.layout.specs.Geometry.{sizeOf, elementPosition}
 use Rattle.layout.specs.Boxes.{boxCount, boxHas, channelAt, rowAt, columnAt}
-use Rattle.layout.specs.Contents.{storedElement, boxElements}
-use Rattle.layout.proofs.BoxLaws.{BoxTaken, at-in, in-boxHas}
+use Rattle.layout.specs.Contents.{readElement, boxElements}
+use Rattle.layout.proofs.BoxLaws.{BoxValid, at-in, in-boxHas}
 use Rattle.regions.specs.declared.RegionTable.{RegionTable}
 use Rattle.regions.specs.Slots.{slotsOf}
 use Rattle.regions.specs.Rules.{rectangleAt, cubeBox, slotChecks, regionBoxChecks, readChecks}
@@ -28,16 +28,16 @@ use Rattle.regions.proofs.CallLaws.{read-accepted}
 
 module _ (q : CubeLayout) (box : ElementBox) (buffer buffer′ : List ℕ)
     (bytes : (c h w k : ℕ) → boxHas box c h w ≡ true → k < sizeOf q → getD buffer (elementPosition q c h w + k) 0 ≡ getD buffer′ (elementPosition q c h w + k) 0) where
-  stored-same : (c h w : ℕ) → boxHas box c h w ≡ true → storedElement q buffer c h w ≡ storedElement q buffer′ c h w
-  unfolding storedElement
+  stored-same : (c h w : ℕ) → boxHas box c h w ≡ true → readElement q buffer c h w ≡ readElement q buffer′ c h w
+  unfolding readElement
   stored-same c h w i = elementAt-ext (sizeOf q) buffer buffer′ (elementPosition q c h w) (elementPosition q c h w) (λ k l. bytes c h w k i l)
 
-  pub box-same : BoxTaken q box → boxElements q box buffer ≡ boxElements q box buffer′
+  pub box-same : BoxValid q box → boxElements q box buffer ≡ boxElements q box buffer′
   unfolding boxElements
   box-same t =
       tabulate-ext (pos 0) (boxCount box)
-      (λ (i : ℕ). storedElement q buffer (channelAt box i) (rowAt box i) (columnAt box i))
-      (λ (i : ℕ). storedElement q buffer′ (channelAt box i) (rowAt box i) (columnAt box i))
+      (λ (i : ℕ). readElement q buffer (channelAt box i) (rowAt box i) (columnAt box i))
+      (λ (i : ℕ). readElement q buffer′ (channelAt box i) (rowAt box i) (columnAt box i))
       (λ i l. stored-same (channelAt box i) (rowAt box i) (columnAt box i) (in-boxHas box (channelAt box i) (rowAt box i) (columnAt box i) (at-in box i l (t .rows .some) (t .columns .some))))
 
 -- ---- two reads

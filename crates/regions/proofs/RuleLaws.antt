@@ -1,5 +1,4 @@
 -- What accepted checks of a placing, a slot and a box in a region tell. By taking the lists of checks apart. Assumes nothing.
---     inOrder-all, requireAt-held          every check of an accepted list held
 --     rectangle-columns, rectangle-rows    the spans of a rectangle in the cube
 --     Placing, place-accepted              what an accepted placing tells
 --     ValidSlot, slot-accepted             what accepted checks 1 to 4, 8 tell
@@ -15,33 +14,17 @@ use Rattle.refusal.specs.declared.Answer.{Answer}
 use Rattle.refusal.specs.declared.Answer.the-variants.{Accepted, Refused}
 use Rattle.refusal.specs.declared.Refusal.{Refusal}
 use Rattle.refusal.specs.Checks.{requireAt, inOrder}
-use Rattle.refusal.proofs.CheckLaws.{inOrder-front, inOrder-back}
+use Rattle.refusal.proofs.CheckLaws.{Held, inOrder-front, inOrder-back, inOrder-all, requireAt-held}
 use Rattle.refusal.proofs.TestLaws.{and-left, and-right}
 use Rattle.layout.specs.declared.CubeLayout.{CubeLayout}
 use Rattle.layout.specs.declared.ElementBox.{ElementBox}
 use Rattle.layout.specs.Boxes.{spanInside}
 use Rattle.layout.specs.Rules.{layoutChecks}
-use Rattle.layout.proofs.Taken.{Taken, taken}
-use Rattle.layout.proofs.BoxLaws.{Span, span-inside, BoxTaken}
+use Rattle.layout.proofs.Valid.{Valid, valid}
+use Rattle.layout.proofs.BoxLaws.{Span, span-inside, BoxValid}
 use Rattle.regions.specs.declared.Rectangle.{Rectangle}
 use Rattle.regions.specs.Slots.{Slot, empty, filled, rectangleInside, overlaps}
 use Rattle.regions.specs.Rules.{slotAt, isFilled, rectangleOf, rectangleAt, placeChecks, boxInRectangle, cubeBox, slotChecks, regionBoxChecks}
-
--- ---- every check of an accepted list held
-unfoldable pub Held : List Answer → Type 0
-Held [] = Unit {0}
-Held (a ∷ rest) = (a ≡ Accepted) × Held rest
-
-pub inOrder-all : (checks : List Answer) → inOrder checks ≡ Accepted → Held checks
-unfolding Held inOrder
-inOrder-all [] e = tt
-inOrder-all (Accepted ∷ rest) e = (refl, inOrder-all rest e)
-inOrder-all (Refused r i ∷ rest) e = absurd (let z : _≡_ {A = ℕ} 0 1 = cc in omega arith)
-
-pub requireAt-held : (i : ℕ) (r : Refusal) (b : Bool) → requireAt i r b ≡ Accepted → b ≡ true
-unfolding requireAt
-requireAt-held i r true e = refl
-requireAt-held i r false e = cc
 
 -- ---- rectangles and boxes
 module _ (q : CubeLayout) (g : Rectangle) where
@@ -66,7 +49,7 @@ filled-slot (filled g) e = refl
 
 -- the layout is valid, the slot is one of the sixteen and empty, the rectangle is in the cube and overlaps none
 pub record Placing (q : CubeLayout) (slots : List Slot) (n : ℕ) (g : Rectangle) : Type 0 where
-  pub layout : Taken q
+  pub layout : Valid q
   pub number : n < 16
   pub vacant : isFilled (slotAt slots n) ≡ false
   pub inside : rectangleInside q g ≡ true
@@ -78,7 +61,7 @@ place-accepted q slots n g e =
     let held = inOrder-all _ (inOrder-back (layoutChecks q) _ e) in
     let free = requireAt-held _ _ _ (held .0) in
     record {
-      layout = taken q (inOrder-front (layoutChecks q) _ e);
+      layout = valid q (inOrder-front (layoutChecks q) _ e);
       number = ltb-true n 16 (and-left _ _ free);
       vacant = not-true _ (and-right (ltb n 16) _ free);
       inside = requireAt-held _ _ _ (held .1 .0);
@@ -90,7 +73,7 @@ place-accepted q slots n g e =
 -- the layout is valid, the slot is one of the sixteen and filled
 pub record ValidSlot (q : CubeLayout) (slots : List Slot) (n : ℕ) : Type 0 where
   pub checked : inOrder (layoutChecks q) ≡ Accepted
-  pub layout : Taken q
+  pub layout : Valid q
   pub number : n < 16
   pub placed : slotAt slots n ≡ filled (rectangleAt slots n)
 
@@ -100,7 +83,7 @@ slot-accepted q slots n e =
     let there = requireAt-held _ _ _ (inOrder-all _ (inOrder-back (layoutChecks q) _ e) .0) in
     record {
       checked = inOrder-front (layoutChecks q) _ e;
-      layout = taken q (inOrder-front (layoutChecks q) _ e);
+      layout = valid q (inOrder-front (layoutChecks q) _ e);
       number = ltb-true n 16 (and-left _ _ there);
       placed = filled-slot (slotAt slots n) (and-right (ltb n 16) _ there);
     }
@@ -113,7 +96,7 @@ pub record ValidBox (q : CubeLayout) (slots : List Slot) (n : ℕ) (b : ElementB
   pub inside : rectangleInside q (rectangleAt slots n) ≡ true
   pub rows : Span (b .row) (b .rows) (rectangleAt slots n .rows)
   pub columns : Span (b .column) (b .columns) (rectangleAt slots n .columns)
-  pub box : BoxTaken q (cubeBox (rectangleAt slots n) b)
+  pub box : BoxValid q (cubeBox (rectangleAt slots n) b)
 
 pub box-accepted : (q : CubeLayout) (slots : List Slot) (n : ℕ) (b : ElementBox) → inOrder (regionBoxChecks q slots n b) ≡ Accepted → ValidBox q slots n b
 unfolding regionBoxChecks boxInRectangle Held

@@ -154,7 +154,7 @@ pub fn position(table: RegionTable, slot: u32, channel: u32, row: u32, column: u
         columns: 1,
     };
     match rules::check_box(table, slot, one) {
-        Answer::Refused(refusal, at) => Quantity::Denied(refusal, at),
+        Answer::Refused(refusal, at) => Quantity::Refused(refusal, at),
         Answer::Accepted => {
             let found = rules::cube_box(table, slot, one);
             cube::position(table.layout, found.channel, found.row, found.column)

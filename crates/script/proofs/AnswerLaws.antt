@@ -2,7 +2,7 @@
 -- definitions of specs/Rows.antt apart. Assumes nothing.
 --     record-refused, record-done                   any record, by its answer
 --     record-unreadable                             a line that is no record
---     frame-refused, frame-taken                    a frame, by its extent
+--     frame-refused, frame-valid                    a frame, by its extent
 --     stall-unframed, stall-refused, stall-placed   a stall, by its placing
 --     cell-unframed, cell-refused, cell-at          a cell, by its position
 --     count-le, count-all-le                        the elements of a placed region, counted in 64 bits
@@ -15,8 +15,8 @@ use Rattle.refusal.specs.declared.Refusal.{Refusal}
 use Rattle.refusal.specs.declared.Refusal.the-variants.{Size, ScriptLine}
 use Rattle.refusal.specs.declared.Answer.{Answer}
 use Rattle.refusal.specs.declared.Answer.the-variants.{Accepted, Refused}
-use Rattle.refusal.specs.declared.Quantity.the-variants.{Is, Denied}
-use Rattle.refusal.specs.Checks.{leaves, quantity}
+use Rattle.refusal.specs.declared.Quantity.the-variants.{Is, Refused as NotGiven}
+use Rattle.refusal.specs.Checks.{leaves, quantity, result}
 use Rattle.layout.specs.declared.CubeLayout.{CubeLayout}
 use Rattle.layout.specs.Calls.{extentQuantity}
 use Rattle.regions.specs.declared.RegionTable.{RegionTable}
@@ -30,18 +30,18 @@ use Rattle.script.specs.Rows.{Desk, framedOr, recordAnswer, recordValue,
 use Rattle.script.specs.Steps.{afterRecord, refusedRecord}
 
 -- ---- a quantity, back to its answer
-denied : (a : Answer) (n : ℕ) {x : Refusal} {i : ℕ} → quantity a n ≡ Denied x i → a ≡ Refused x i
-unfolding quantity
+denied : (a : Answer) (n : ℕ) {x : Refusal} {i : ℕ} → quantity a n ≡ NotGiven x i → a ≡ Refused x i
+unfolding result
 denied Accepted n e = cc
 denied (Refused y j) n e = cc
 
 accepted : (a : Answer) (n : ℕ) {v : ℕ} → quantity a n ≡ Is v → a ≡ Accepted
-unfolding quantity
+unfolding result
 accepted Accepted n e = refl
 accepted (Refused y j) n e = cc
 
 value-is : (a : Answer) (n : ℕ) {v : ℕ} → quantity a n ≡ Is v → v ≡ n
-unfolding quantity
+unfolding result
 value-is Accepted n e = cc
 value-is (Refused y j) n e = cc
 
@@ -62,13 +62,13 @@ module _ (d : Desk) where
 
   -- ---- frame
   module _ (q : CubeLayout) where
-    pub frame-refused : {x : Refusal} {i : ℕ} → extentQuantity q ≡ Denied x i → refusedRecord d x i ≡ afterRecord d (Frame q)
+    pub frame-refused : {x : Refusal} {i : ℕ} → extentQuantity q ≡ NotGiven x i → refusedRecord d x i ≡ afterRecord d (Frame q)
     unfolding extentQuantity recordAnswer
     frame-refused e = record-refused (Frame q) (denied _ _ e)
 
-    pub frame-taken : {v : ℕ} → extentQuantity q ≡ Is v → _≡_ {A = After} (record { answer = Accepted; value = v; framed = true; table = emptyTable q }) (afterRecord d (Frame q))
+    pub frame-valid : {v : ℕ} → extentQuantity q ≡ Is v → _≡_ {A = After} (record { answer = Accepted; value = v; framed = true; table = emptyTable q }) (afterRecord d (Frame q))
     unfolding extentQuantity recordAnswer recordValue recordDone
-    frame-taken e = record-done (Frame q) (accepted _ _ e) (value-is _ _ e)
+    frame-valid e = record-done (Frame q) (accepted _ _ e) (value-is _ _ e)
 
   -- ---- a record before a frame, and after one
   pub unframed : (a : Answer) → d .framed ≡ false → framedOr d a ≡ Refused Size 0
@@ -104,7 +104,7 @@ module _ (d : Desk) where
     cell-unframed e = record-refused (Cell slot c h w) (unframed _ e)
 
     module _ (f : d .framed ≡ true) where
-      pub cell-refused : {x : Refusal} {i : ℕ} → regionPosition (d .table) slot c h w ≡ Denied x i → refusedRecord d x i ≡ afterRecord d (Cell slot c h w)
+      pub cell-refused : {x : Refusal} {i : ℕ} → regionPosition (d .table) slot c h w ≡ NotGiven x i → refusedRecord d x i ≡ afterRecord d (Cell slot c h w)
       unfolding recordAnswer regionPosition
       cell-refused e = record-refused (Cell slot c h w) (framed-is _ f ∙ denied _ _ e)
 

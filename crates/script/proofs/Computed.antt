@@ -7,8 +7,8 @@ use Rattle.refusal.specs.Checks.{requireAt, inOrder, leaves}
 use Rattle.elements.specs.Bytes.{elementBytes}
 use Rattle.layout.specs.Geometry.{surfaces, elementPosition, cubeExtent}
 use Rattle.layout.specs.Boxes.{spanInside, spanHas}
-use Rattle.refusal.specs.Sizes.{sizeTaken}
-use Rattle.layout.specs.Rules.{sizesTaken, wholeAtoms, stridesTaken, layoutChecks}
+use Rattle.refusal.specs.Sizes.{sizeValid}
+use Rattle.layout.specs.Rules.{sizesValid, wholeAtoms, stridesValid, layoutChecks}
 use Rattle.regions.specs.Slots.{slotOf, slotsOf, rectangleHas, occupied, anyFrom, overlaps, rectangleInside}
 use Rattle.regions.specs.Rules.{slotAt, isFilled, rectangleOf, placeChecks, boxInRectangle, slotChecks, regionBoxChecks}
 use Rattle.regions.specs.Calls.{placeAnswer, placeTable}
@@ -87,5 +87,5 @@ pub record Computed : Type 0 where
   pub none : printed [] ≡ []
 
 pub computed : Computed
-unfolding requireAt inOrder leaves elementBytes surfaces elementPosition cubeExtent spanInside spanHas sizeTaken sizesTaken wholeAtoms stridesTaken layoutChecks slotOf slotsOf rectangleHas occupied anyFrom overlaps rectangleInside slotAt isFilled rectangleOf placeChecks boxInRectangle slotChecks regionBoxChecks placeAnswer placeTable before split fieldsOf withoutEmptyLast linesOf partLength sameText isDigit allDigits digitsAfter isEmpty wellBegun numberOf andNumber listed inTable numbersOf withByte added lineText nextLines collected shaped frameOf stallOf cellOf byWord byFields recordOf lineRecord framedOr recordAnswer recordValue recordDone valueAfter deskAfter rowOf rowsAfter sheet startSheet lineEnded lineRow fed finished andThen partFed rowsOfParts output rowText fieldsText digits leadingIn numeral flatten
+unfolding requireAt inOrder leaves elementBytes surfaces elementPosition cubeExtent spanInside spanHas sizeValid sizesValid wholeAtoms stridesValid layoutChecks slotOf slotsOf rectangleHas occupied anyFrom overlaps rectangleInside slotAt isFilled rectangleOf placeChecks boxInRectangle slotChecks regionBoxChecks placeAnswer placeTable before split fieldsOf withoutEmptyLast linesOf partLength sameText isDigit allDigits digitsAfter isEmpty wellBegun numberOf andNumber listed inTable numbersOf withByte added lineText nextLines collected shaped frameOf stallOf cellOf byWord byFields recordOf lineRecord framedOr recordAnswer recordValue recordDone valueAfter deskAfter rowOf rowsAfter sheet startSheet lineEnded lineRow fed finished andThen partFed rowsOfParts output rowText fieldsText digits leadingIn numeral flatten
 computed = record { text = refl; session = refl; ended = refl; refused = refl; emptied = refl; corner = refl; parts = refl; none = refl }

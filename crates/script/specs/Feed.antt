@@ -1,4 +1,4 @@
--- The input fed in parts: what each call answers. That the rows are those of the whole sheet is a theorem (proofs/Theorem.antt). Assumes nothing.
+-- The input fed in parts: what each call answers. That the rows are those of the whole sheet is a theorem (proofs/Claims.antt). Assumes nothing.
 use Prim.Native.Nat.{ℕ, zero, suc}
 use mathlib.Core.Bool.{cond}
 use mathlib.Core.List.{List, [], _∷_, _++_}

@@ -32,7 +32,7 @@ fn frame(framed: bool, table: RegionTable, layout: CubeLayout) -> After
     ensures { λ r. ⌜ r ≡ afterRecord (desk framed table) (Frame layout) ⌝ }
 {
     match layout::extent(layout) {
-        Quantity::Denied(refusal, at) => refused(framed, table, refusal, at),
+        Quantity::Refused(refusal, at) => refused(framed, table, refusal, at),
         Quantity::Is(value) => {
             let empty = regions::empty(layout);
             After {
@@ -106,7 +106,7 @@ fn cell(framed: bool, table: RegionTable, slot: u32, channel: u32, row: u32, col
         return refused(framed, table, Refusal::Size, 0);
     }
     match regions::position(table, slot, channel, row, column) {
-        Quantity::Denied(refusal, at) => refused(framed, table, refusal, at),
+        Quantity::Refused(refusal, at) => refused(framed, table, refusal, at),
         Quantity::Is(value) => After {
             answer: Answer::Accepted,
             value: value,

@@ -14,7 +14,7 @@ use Rattle.weights.specs.declared.WeightLayout.{WeightLayout}
 use Rattle.weights.specs.declared.walk.Run.{Run}
 use Rattle.weights.specs.Geometry.{sizeOf, groupKernels, blockChannels}
 use Rattle.weights.specs.Steps.{pixelNumber, pixelIndex, groupIn, AtRun, widthOf, runColumns}
-use Rattle.weights.proofs.Taken.{Taken}
+use Rattle.weights.proofs.Valid.{Valid}
 use Rattle.weights.proofs.NumberLaws.{groupSize-le}
 use Rattle.weights.proofs.BoundLaws.{pixels-le}
 use Rattle.weights.proofs.RunLaws.{run-small}
@@ -38,7 +38,7 @@ pub record Numbers (q : WeightLayout) (x : Run) (size kernels channels : ℕ) : 
   pub kernels-is : kernels ≡ groupKernels q (groupIn q x)
   pub channels-is : channels ≡ blockChannels q (x .block)
 
-module _ (q : WeightLayout) (ok : Taken q) (x : Run) (a : AtRun q x) {size kernels channels : ℕ} (n : Numbers q x size kernels channels) where
+module _ (q : WeightLayout) (ok : Valid q) (x : Run) (a : AtRun q x) {size kernels channels : ℕ} (n : Numbers q x size kernels channels) where
   pub run-bounds : Bounds q x size kernels channels
   unfolding groupKernels blockChannels
   run-bounds =

@@ -7,9 +7,9 @@ use native.Mathlib.Omega.{arith}
 use Rattle.elements.proofs.ByteLaws.{elementBytes-le}
 use Rattle.weights.specs.declared.WeightLayout.{WeightLayout}
 use Rattle.weights.specs.Geometry.{sizeOf, elementCount}
-use Rattle.weights.proofs.Taken.{Taken}
+use Rattle.weights.proofs.Valid.{Valid}
 
-module _ (q : WeightLayout) (ok : Taken q) where
+module _ (q : WeightLayout) (ok : Valid q) where
   pub pixels-le : q .rows * q .columns ≤ 1024
   pixels-le = mul-le-mul {n₂ = 32} {m₂ = 32} (ok .rows .most-le) (ok .columns .most-le)
 

@@ -1,7 +1,7 @@
 -- What an accepted call tells, and what each call answers and leaves, by the answers of its checks. Assumes nothing.
 --     Admitted, admitted             what checks 1, 2, 6, 5 tell
 --     pack-admitted, pack-values     what an accepted packing tells
---     pack-refused, pack-outside, pack-taken, unpack-refused, unpack-taken     answer and contents by the checks
+--     pack-refused, pack-outside, pack-valid, unpack-refused, unpack-valid     answer and contents by the checks
 use Prim.Native.Nat.{ℕ, _≤_}
 use mathlib.Core.Path.{_≡_, sym, _∙_}
 use mathlib.Core.Bool.{Bool, true}
@@ -19,22 +19,22 @@ use Rattle.refusal.proofs.CheckLaws.{inOrder-held, inOrder-rest, inOrder-front,
 use Rattle.elements.specs.Values.{valueChecks}
 use Rattle.weights.specs.declared.WeightLayout.{WeightLayout}
 use Rattle.weights.specs.Geometry.{elementCount, surfaceBytes}
-use Rattle.weights.specs.Rules.{sizesTaken, weightChecks}
+use Rattle.weights.specs.Rules.{sizesValid, weightChecks}
 use Rattle.weights.specs.Contents.{packed, unpacked}
 use Rattle.weights.specs.Calls.{packAnswer, packBuffer, unpackAnswer, unpackElements}
-use Rattle.weights.proofs.Taken.{Taken, taken}
+use Rattle.weights.proofs.Valid.{Valid, valid}
 
--- an accepted call: the sizes are taken, the elements are as many as the tensor has, the buffer holds the surface
+-- an accepted call: the sizes are valid, the elements are as many as the tensor has, the buffer holds the surface
 pub record Admitted (q : WeightLayout) (given len : ℕ) : Type 0 where
-  pub sizes : sizesTaken q ≡ true
-  pub layout : Taken q
+  pub sizes : sizesValid q ≡ true
+  pub layout : Valid q
   pub count : given ≡ elementCount q
   pub room : surfaceBytes q ≤ len
 
 pub admitted : (q : WeightLayout) (given len : ℕ) → inOrder (weightChecks q given len) ≡ Accepted → Admitted q given len
 unfolding weightChecks
 admitted q given len e =
-    let sz : Bool = sizesTaken q in
+    let sz : Bool = sizesValid q in
     let pr : Bool = ltb (q .precision) 3 in
     let co : Bool = eqb given (elementCount q) in
     let ro : Bool = leb (surfaceBytes q) len in
@@ -47,7 +47,7 @@ admitted q given len e =
     let s = inOrder-held 0 Size sz r1 e in
     record {
       sizes = s;
-      layout = taken q s;
+      layout = valid q s;
       count = eqb-true given (elementCount q) (inOrder-held 0 ElementCount co r3 e2);
       room = leb-true (surfaceBytes q) len (inOrder-held 0 BufferLength ro [] e3);
     }
@@ -79,9 +79,9 @@ module _ (q : WeightLayout) (raw : List ℤ) (before : List ℕ) where
     pub pack-outside : {r : Refusal} {i : ℕ} → inOrder (valueChecks (q .precision) raw) ≡ Refused r i → Pack (Refused r i) before
     pack-outside e = by-refusal (to-values ∙ e)
 
-    pub pack-taken : inOrder (valueChecks (q .precision) raw) ≡ Accepted → Pack Accepted (packed q raw before)
+    pub pack-valid : inOrder (valueChecks (q .precision) raw) ≡ Accepted → Pack Accepted (packed q raw before)
     unfolding packBuffer
-    pack-taken e = (sym (to-values ∙ e), sym (leaves-done (packed q raw before) before (to-values ∙ e)))
+    pack-valid e = (sym (to-values ∙ e), sym (leaves-done (packed q raw before) before (to-values ∙ e)))
 
 module _ (q : WeightLayout) (buffer : List ℕ) (before : List ℤ) where
   abbrev Unpack : Answer → List ℤ → Type 0
@@ -91,6 +91,6 @@ module _ (q : WeightLayout) (buffer : List ℕ) (before : List ℤ) where
   unfolding unpackAnswer unpackElements
   unpack-refused e = (sym e, sym (leaves-before (unpacked q buffer) before e))
 
-  pub unpack-taken : inOrder (weightChecks q (length before) (length buffer)) ≡ Accepted → Unpack Accepted (unpacked q buffer)
+  pub unpack-valid : inOrder (weightChecks q (length before) (length buffer)) ≡ Accepted → Unpack Accepted (unpacked q buffer)
   unfolding unpackAnswer unpackElements
-  unpack-taken e = (sym e, sym (leaves-done (unpacked q buffer) before e))
+  unpack-valid e = (sym e, sym (leaves-done (unpacked q buffer) before e))

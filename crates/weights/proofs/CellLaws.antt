@@ -17,7 +17,7 @@ use Rattle.weights.specs.declared.WeightLayout.{WeightLayout}
 use Rattle.weights.specs.declared.walk.Run.{Run}
 use Rattle.weights.specs.Geometry.{sizeOf, elementCount, groupKernels, blockChannels, rawAt}
 use Rattle.weights.specs.Steps.{pixelNumber, pixelIndex, groupIn, AtRun, widthOf, runColumns, pixelColumns, channelColumns}
-use Rattle.weights.proofs.Taken.{Taken}
+use Rattle.weights.proofs.Valid.{Valid}
 use Rattle.weights.proofs.NumberLaws.{Place, number-lt, rawAt-pixel}
 use Rattle.weights.proofs.IndexLaws.{rawAt-lt}
 
@@ -53,7 +53,7 @@ module _ (q : WeightLayout) (x : Run) where
     pub all : (j t d : ℕ) → OfRun j → t < q .rows * q .columns → d < blockChannels q (x .block)
         → (i : ℕ) × (r : ℕ) × Cell k i r (pixelNumber q (groupIn q x) (x .block) t j d)
 
-module _ (q : WeightLayout) (ok : Taken q) (x : Run) (a : AtRun q x) where
+module _ (q : WeightLayout) (ok : Valid q) (x : Run) (a : AtRun q x) where
   some-channels : 0 < blockChannels q (x .block)
   unfolding blockChannels
   some-channels = omega (arith, a .here .block-lt)

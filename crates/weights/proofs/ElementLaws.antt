@@ -9,7 +9,7 @@ use native.Mathlib.Omega.{arith}
 use mathlib.Core.Path.{_≡_, refl, sym, ap, _∙_, subst}
 use lib.Arith.{digits-div, digits-mod, digits-lt}
 use Rattle.weights.specs.declared.WeightLayout.{WeightLayout}
-use Rattle.weights.specs.Geometry.{groupOf, elementCount, rawIndex, groupKernels, blockChannels, placeNumber, elementNumber, rawAt, numberAt}
+use Rattle.weights.specs.Geometry.{groupOf, elementCount, rawIndex, groupKernels, blockChannels, offsetNumber, elementNumber, rawAt, numberAt}
 use Rattle.weights.specs.Steps.{pixelNumber, pixelIndex}
 use Rattle.weights.proofs.NumberLaws as number
 use Rattle.weights.proofs.NumberLaws.{groupSize-pos, Place, rawAt-pixel}
@@ -28,7 +28,7 @@ module _ (q : WeightLayout) (k c r s : ℕ) (x : Element q k c r s) where
       }
 
   pub element-pixel : elementNumber q k c r s ≡ pixelNumber q (k / groupOf q) (c / 64) (r * q .columns + s) (k % groupOf q) (c % 64)
-  unfolding elementNumber placeNumber pixelNumber
+  unfolding elementNumber offsetNumber pixelNumber
   element-pixel = refl
 
   pub number-lt : elementNumber q k c r s < elementCount q

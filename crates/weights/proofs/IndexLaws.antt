@@ -8,9 +8,9 @@ use mathlib.Core.Path.{_≡_, _∙_}
 use lib.Arith.{digits-div, digits-mod}
 use Rattle.weights.specs.declared.WeightLayout.{WeightLayout}
 use Rattle.weights.specs.Geometry.{groupOf, elementCount, rawIndex, groupKernels, blockChannels, elementNumber, groupAt, inBlock, blockAt, pixelAt, kernelAt, channelAt, rawAt, numberAt}
-use Rattle.weights.proofs.Taken.{Taken}
+use Rattle.weights.proofs.Valid.{Valid}
 use Rattle.weights.proofs.NumberLaws.{kernel-in, channel-in, kernel-below, channel-below}
-use Rattle.weights.proofs.PlaceLaws.{place-at, number-at}
+use Rattle.weights.proofs.OffsetLaws.{place-at, number-at}
 use Rattle.weights.proofs.ElementLaws.{Element, number-lt, element-pixel, rawAt-number, index-lt, numberAt-index}
 
 -- some element of the tensor has number i
@@ -22,7 +22,7 @@ pub record ElementNumbered (q : WeightLayout) (i : ℕ) : Type 0 where
   pub element : Element q k c r s
   pub number : elementNumber q k c r s ≡ i
 
-module _ (q : WeightLayout) (ok : Taken q) (i : ℕ) (hi : i < elementCount q) where
+module _ (q : WeightLayout) (ok : Valid q) (i : ℕ) (hi : i < elementCount q) where
   index-element : Element q (i / q .columns / q .rows / q .channels) (i / q .columns / q .rows % q .channels) (i / q .columns % q .rows) (i % q .columns)
   unfolding elementCount
   index-element =

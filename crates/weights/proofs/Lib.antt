@@ -1,9 +1,9 @@
 -- Laws of the definitions of specs/, for the crates above. The last seven serve the walk alone.
---     Taken           what accepted sizes tell
+--     Valid           what accepted sizes tell
 --     RuleLaws        checks 1, 2, 6, 5 as the code goes through them
 --     CallLaws        what an accepted call tells, and what each call answers and leaves
 --     NumberLaws      an element's number by its five digits
---     PlaceLaws       the digits of each number below the count
+--     OffsetLaws       the digits of each number below the count
 --     ElementLaws     numbers and raw indices of elements, no two of them shared
 --     IndexLaws       numbers and raw indices, inverse to each other
 --     SurfaceLaws     the packed surface, and each byte after packing
@@ -17,11 +17,11 @@
 --     BlockLaws       ..as the code computes them
 --     WalkLaws        the walk over all runs, toward a goal list
 --     WriteLaws, ReadLaws     what writing and reading all runs leave
-pub mod Taken
+pub mod Valid
 pub mod RuleLaws
 pub mod CallLaws
 pub mod NumberLaws
-pub mod PlaceLaws
+pub mod OffsetLaws
 pub mod ElementLaws
 pub mod IndexLaws
 pub mod SurfaceLaws

@@ -16,7 +16,7 @@ use Rattle.elements.proofs.ByteLaws.{elementBytes-pos}
 use Rattle.weights.specs.declared.WeightLayout.{WeightLayout}
 use Rattle.weights.specs.Geometry.{sizeOf, elementCount, rawIndex, elementNumber, elementPosition, surfaceBytes}
 use Rattle.weights.specs.Contents.{packed}
-use Rattle.weights.proofs.Taken.{Taken}
+use Rattle.weights.proofs.Valid.{Valid}
 use Rattle.weights.proofs.ElementLaws.{Element, number-lt, number-inj, rawAt-number}
 use Rattle.weights.proofs.IndexLaws.{number-reached}
 use Rattle.weights.proofs.SurfaceLaws.{surface-ge, byte-within, packed-byte}
@@ -53,7 +53,7 @@ module _ (q : WeightLayout) where
   byte-element p x =
       omega (arith, x .place, byte-within q (elementNumber q (x .k) (x .c) (x .r) (x .s)) (x .b) (number-lt q (x .k) (x .c) (x .r) (x .s) (x .element)) (x .byte-lt))
 
-  pub element-byte : Taken q → (p : ℕ) → p < elementCount q * sizeOf q → ElementByte q p
+  pub element-byte : Valid q → (p : ℕ) → p < elementCount q * sizeOf q → ElementByte q p
   unfolding elementPosition
   element-byte ok p h =
       let e = sizeOf q in

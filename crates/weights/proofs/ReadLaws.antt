@@ -19,7 +19,7 @@ use Rattle.weights.specs.declared.walk.Run.{Run}
 use Rattle.weights.specs.Geometry.{sizeOf, elementCount, surfaceBytes, rawAt, numberAt}
 use Rattle.weights.specs.Contents.{unpacked}
 use Rattle.weights.specs.Steps.{AtRun, NextRun, runColumns}
-use Rattle.weights.proofs.Taken.{Taken}
+use Rattle.weights.proofs.Valid.{Valid}
 use Rattle.weights.proofs.IndexLaws.{rawAt-lt, numberAt-lt, numberAt-rawAt, rawAt-numberAt}
 use Rattle.weights.proofs.SurfaceLaws.{surface-ge}
 use Rattle.weights.proofs.CellLaws.{Holds, run-holds, holds-fits}
@@ -37,7 +37,7 @@ module _ (q : WeightLayout) (buffer : List ℕ) where
   read-kept : (l₁ l₂ : List ℤ) → Toward (pos 0) (unpacked q buffer) l₁ l₂ → (i : ℕ) → Read i l₁ → Read i l₂
   read-kept l₁ l₂ step i e = reached-kept (pos 0) (unpacked q buffer) step (rawAt q i) e
 
-  module _ (ok : Taken q) where
+  module _ (ok : Valid q) where
     pub read-first : (before : List ℤ) → Reading before before (record { first = 0; block = 0; kernel = 0 })
     read-first = walked-first q (pos 0) (unpacked q buffer) Read ok
 

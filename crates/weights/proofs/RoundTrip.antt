@@ -12,7 +12,7 @@ use Rattle.refusal.specs.declared.Answer.the-variants.{Accepted}
 use Rattle.elements.specs.Bytes.{elementAt}
 use Rattle.elements.proofs.ByteLaws.{elementAt-byteOf}
 use Rattle.elements.proofs.TabulateLaws.{length-tabulate, getD-tabulate}
-use Rattle.elements.proofs.ValueLaws.{valueTaken-fits, valueChecks-taken}
+use Rattle.elements.proofs.ValueLaws.{valueValid-fits, valueChecks-valid}
 use Rattle.weights.specs.declared.WeightLayout.{WeightLayout}
 use Rattle.weights.specs.Geometry.{sizeOf, elementCount, rawAt, numberAt}
 use Rattle.weights.specs.Contents.{packed, unpacked}
@@ -30,7 +30,7 @@ module _ (q : WeightLayout) (raw : List ℤ) (before : List ℕ) (sixteen : (i :
       let z = getD raw (rawAt q k) (pos 0) in
       let index : rawAt q k < length raw = omega (arith, adm .count, rawAt-lt q (adm .layout) k h) in
       elementAt-byteOf (sizeOf q) z (packed q raw before) (k * sizeOf q)
-      (valueTaken-fits (q .precision) z (valueChecks-taken (q .precision) raw (pack-values q raw before accepted) (rawAt q k) index) (sixteen (rawAt q k)))
+      (valueValid-fits (q .precision) z (valueChecks-valid (q .precision) raw (pack-values q raw before accepted) (rawAt q k) index) (sixteen (rawAt q k)))
       (λ b hb. packed-byte q raw before k b h hb (omega (arith, adm .room, surface-ge q, byte-within q k b h hb)))
 
   pub read-back : unpacked q (packed q raw before) ≡ raw

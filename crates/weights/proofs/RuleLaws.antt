@@ -1,5 +1,5 @@
 -- The order of checks 1, 2, 6, 5 as the code goes through them, one test after another. Assumes nothing.
---     check-sizes .. check-taken            the checks
+--     check-sizes .. check-valid            the checks
 use Prim.Native.Nat.{ℕ, _≤_, _<_}
 use mathlib.Core.Path.{_≡_, sym, _∙_}
 use mathlib.Core.Bool.{true, false}
@@ -13,7 +13,7 @@ use Rattle.refusal.specs.Checks.{inOrder, require}
 use Rattle.refusal.proofs.CheckLaws.{inOrder-nil, inOrder-next, inOrder-stop}
 use Rattle.weights.specs.declared.WeightLayout.{WeightLayout}
 use Rattle.weights.specs.Geometry.{elementCount, surfaceBytes}
-use Rattle.weights.specs.Rules.{sizesTaken, weightChecks}
+use Rattle.weights.specs.Rules.{sizesValid, weightChecks}
 
 module _ (q : WeightLayout) (given len : ℕ) where
   r4 : List Answer
@@ -27,11 +27,11 @@ module _ (q : WeightLayout) (given len : ℕ) where
   unfolding r3
   r2 = require Precision (ltb (q .precision) 3) ∷ r3
 
-  pub check-sizes : sizesTaken q ≡ false → Refused Size 0 ≡ inOrder (weightChecks q given len)
+  pub check-sizes : sizesValid q ≡ false → Refused Size 0 ≡ inOrder (weightChecks q given len)
   unfolding weightChecks r2
   check-sizes e = sym (inOrder-stop 0 Size r2 e)
 
-  module _ (sz : sizesTaken q ≡ true) where
+  module _ (sz : sizesValid q ≡ true) where
     to-precision : inOrder (weightChecks q given len) ≡ inOrder r2
     unfolding weightChecks r2
     to-precision = inOrder-next 0 Size r2 sz
@@ -58,6 +58,6 @@ module _ (q : WeightLayout) (given len : ℕ) where
         unfolding r4
         check-room h = sym (to-room ∙ inOrder-stop 0 BufferLength [] (lt-leb (surfaceBytes q) len h))
 
-        pub check-taken : surfaceBytes q ≤ len → Accepted ≡ inOrder (weightChecks q given len)
+        pub check-valid : surfaceBytes q ≤ len → Accepted ≡ inOrder (weightChecks q given len)
         unfolding r4
-        check-taken h = sym (to-room ∙ inOrder-next 0 BufferLength [] (le-leb (surfaceBytes q) len h) ∙ inOrder-nil)
+        check-valid h = sym (to-room ∙ inOrder-next 0 BufferLength [] (le-leb (surfaceBytes q) len h) ∙ inOrder-nil)

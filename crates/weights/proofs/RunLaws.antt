@@ -14,10 +14,10 @@ use Rattle.weights.specs.declared.WeightLayout.{WeightLayout}
 use Rattle.weights.specs.declared.walk.Run.{Run}
 use Rattle.weights.specs.Geometry.{groupOf, groupKernels}
 use Rattle.weights.specs.Steps.{groupIn, AtKernel, AtRun, InRun, rankOf, NextRun}
-use Rattle.weights.proofs.Taken.{Taken}
+use Rattle.weights.proofs.Valid.{Valid}
 use Rattle.weights.proofs.NumberLaws.{groupSize-pos, groupSize-le}
 
-module _ (q : WeightLayout) (ok : Taken q) where
+module _ (q : WeightLayout) (ok : Valid q) where
   -- a kernel's digits
   pub record Small (x : Run) : Type 0 where
     pub block-lt : x .block < 128

@@ -13,8 +13,8 @@ use Rattle.weights.specs.declared.WeightLayout.{WeightLayout}
 use Rattle.weights.specs.declared.walk.Run.{Run}
 use Rattle.weights.specs.Geometry.{groupOf, elementCount, groupKernels, blockChannels, groupAt, blockAt, pixelAt, inBlock}
 use Rattle.weights.specs.Steps.{pixelNumber, groupIn, AtKernel, AtRun, rankOf, NextRun}
-use Rattle.weights.proofs.Taken.{Taken}
-use Rattle.weights.proofs.PlaceLaws.{group-below, block-below, place-at, number-at}
+use Rattle.weights.proofs.Valid.{Valid}
+use Rattle.weights.proofs.OffsetLaws.{group-below, block-below, place-at, number-at}
 use Rattle.weights.proofs.RunLaws.{run-small, group-of, first-run}
 use Rattle.weights.proofs.CellLaws.{OfRun}
 
@@ -34,7 +34,7 @@ module _ (q : WeightLayout) {A : Type 0} (d : A) (goal : List A) (Has : ℕ → 
     pub toward : Toward d goal before l
     pub has : (z : Run) → AtKernel q z → rankOf z < rankOf x → KernelHas (groupIn q z) (z .block) (z .kernel) l
 
-  module _ (ok : Taken q) where
+  module _ (ok : Valid q) where
     pub walked-first : (before : List A) → Walked before before (record { first = 0; block = 0; kernel = 0 })
     walked-first before =
         record {

@@ -27,7 +27,7 @@ use Rattle.weights.specs.declared.walk.Run.{Run}
 use Rattle.weights.specs.Geometry.{sizeOf, elementCount, surfaceBytes, rawAt}
 use Rattle.weights.specs.Contents.{packed}
 use Rattle.weights.specs.Steps.{AtRun, NextRun, runColumns, written}
-use Rattle.weights.proofs.Taken.{Taken}
+use Rattle.weights.proofs.Valid.{Valid}
 use Rattle.weights.proofs.SurfaceLaws.{surface-ge, byte-within, packed-length, packed-at, packed-byte, packed-fill, packed-past}
 use Rattle.weights.proofs.CellLaws.{Holds, run-holds, holds-fits}
 use Rattle.weights.proofs.WalkLaws.{RunHas, Walked, walked-first, walked-next, walked-all}
@@ -53,7 +53,7 @@ module _ (q : WeightLayout) (raw : List ℤ) (before : List ℕ) where
   abbrev pub Writing : List ℕ → Run → Type 0
   Writing l x = Walked q 0 (written q raw before) Written before l x
 
-  pub write-first : Taken q → Writing before (record { first = 0; block = 0; kernel = 0 })
+  pub write-first : Valid q → Writing before (record { first = 0; block = 0; kernel = 0 })
   write-first ok = walked-first q 0 (written q raw before) Written ok before
 
   written-kept : (l₁ l₂ : List ℕ) → Toward 0 (written q raw before) l₁ l₂ → (i : ℕ) → Written i l₁ → Written i l₂
@@ -68,7 +68,7 @@ module _ (q : WeightLayout) (raw : List ℤ) (before : List ℕ) where
 
     -- ---- one run
 
-    module _ (ok : Taken q) (count : length raw ≡ elementCount q) (x : Run) (a : AtRun q x) (l : List ℕ) (long : length l ≡ length before) where
+    module _ (ok : Valid q) (count : length raw ≡ elementCount q) (x : Run) (a : AtRun q x) (l : List ℕ) (long : length l ≡ length before) where
       held : Holds q x (runColumns q x)
       held = run-holds q ok x a
 
@@ -93,7 +93,7 @@ module _ (q : WeightLayout) (raw : List ℤ) (before : List ℕ) where
           (block-written-reached (runColumns q x) raw (written q raw before) l fits same (w .1) (w .0) b (w .2 .row-lt) (w .2 .column-lt) (omega (arith, held .size-is)))
 
     -- a turn of the walk
-    pub write-next : (ok : Taken q) → length raw ≡ elementCount q → (x y : Run) {l l′ : List ℕ} → AtRun q x → Writing l x
+    pub write-next : (ok : Valid q) → length raw ≡ elementCount q → (x y : Run) {l l′ : List ℕ} → AtRun q x → Writing l x
         → l′ ≡ blockWritten (runColumns q x) raw l → NextRun q x y → Writing l′ y
     write-next ok count x y {l} a w e next =
         let long = w .toward .long in
@@ -114,7 +114,7 @@ module _ (q : WeightLayout) (raw : List ℤ) (before : List ℕ) where
           | no f ↦ ⊎-elim (λ s. s ∙ sym (written-outside p (omega arith) lt)) (λ s. s) (step .each p)
         ])
 
-    pub write-done : (ok : Taken q) (x : Run) (l : List ℕ) → q .kernels ≤ x .first → Writing l x → l ≡ written q raw before
+    pub write-done : (ok : Valid q) (x : Run) (l : List ℕ) → q .kernels ≤ x .first → Writing l x → l ≡ written q raw before
     write-done ok x l past w = written-all l (w .toward) (walked-all q 0 (written q raw before) Written ok x past w)
 
     pub write-packed : {end whole : ℕ} {l after : List ℕ} → end ≡ elementCount q * sizeOf q → whole ≡ surfaceBytes q → l ≡ written q raw before

@@ -32,8 +32,8 @@ unfoldable pub blockChannels : WeightLayout → ℕ → ℕ
 blockChannels q b = min 64 (q .channels - b * 64)
 
 -- the number of place d in block b of kernel j of group g, at row r and column s
-unfoldable pub placeNumber : WeightLayout → ℕ → ℕ → ℕ → ℕ → ℕ → ℕ → ℕ
-placeNumber q g j b d r s =
+unfoldable pub offsetNumber : WeightLayout → ℕ → ℕ → ℕ → ℕ → ℕ → ℕ → ℕ
+offsetNumber q g j b d r s =
     g * groupOf q * q .rows * q .columns * q .channels
     + b * 64 * q .rows * q .columns * groupKernels q g
     + ((r * q .columns + s) * groupKernels q g + j) * blockChannels q b
@@ -41,7 +41,7 @@ placeNumber q g j b d r s =
 
 -- the number of element (k, c, r, s)
 unfoldable pub elementNumber : WeightLayout → ℕ → ℕ → ℕ → ℕ → ℕ
-elementNumber q k c r s = placeNumber q (k / groupOf q) (k % groupOf q) (c / 64) (c % 64) r s
+elementNumber q k c r s = offsetNumber q (k / groupOf q) (k % groupOf q) (c / 64) (c % 64) r s
 
 -- the byte at which element (k, c, r, s) begins
 unfoldable pub elementPosition : WeightLayout → ℕ → ℕ → ℕ → ℕ → ℕ

@@ -26,7 +26,7 @@ pub struct WeightLayout {
 fn check(layout: WeightLayout, given: usize, len: usize) -> Answer
     ensures { λ r. ⌜ r ≡ inOrder (weightChecks layout given len) ⌝ }
 {
-    if !rules::sizes_taken(layout) {
+    if !rules::sizes_valid(layout) {
         return Answer::Refused(Refusal::Size, 0);
     }
     if 3 <= layout.precision {

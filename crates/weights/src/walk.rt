@@ -5,7 +5,7 @@ ghost use mathlib.Core.Bool.{true, cond};
 ghost use Prim.Native.Nat.{_-_, _*_, _<_, _≤_, min};
 ghost use lib.Dec.{leb};
 ghost use Rattle.weights.specs.Geometry.{groupSize, groupOf};
-ghost use Rattle.weights.specs.Rules.{sizesTaken};
+ghost use Rattle.weights.specs.Rules.{sizesValid};
 ghost use Rattle.weights.specs.Steps.{AtRun, NextRun, runColumns};
 use crate::WeightLayout;
 use columns::ColumnBlock;
@@ -52,7 +52,7 @@ fn run_width(layout: WeightLayout, kernels: u32, channels: u32) -> u32
 
 // The columns of a run.
 pub(crate) fn run_columns(layout: WeightLayout, run: Run) -> ColumnBlock
-    requires { ⌜ sizesTaken layout ≡ true ⌝ }
+    requires { ⌜ sizesValid layout ≡ true ⌝ }
     requires { ⌜ AtRun layout run ⌝ }
     ensures { λ r. ⌜ r ≡ runColumns layout run ⌝ }
 {
@@ -91,7 +91,7 @@ pub(crate) fn run_columns(layout: WeightLayout, run: Run) -> ColumnBlock
 
 // The run behind a run; behind the last one its group has no kernels.
 pub(crate) fn next(layout: WeightLayout, run: Run) -> Run
-    requires { ⌜ sizesTaken layout ≡ true ⌝ }
+    requires { ⌜ sizesValid layout ≡ true ⌝ }
     requires { ⌜ AtRun layout run ⌝ }
     ensures { λ r. ⌜ NextRun layout run r ⌝ }
 {

@@ -4,7 +4,7 @@ use mathlib.Core.List.{List, [], _∷_}
 use lib.IntN.{ℤ, pos, negsuc}
 use Rattle.refusal.specs.Codes.{codeOf}
 use Rattle.quantize.specs.declared.Quantized.{Quantized}
-use Rattle.quantize.specs.declared.Quantized.the-variants.{Value, Denied}
+use Rattle.quantize.specs.declared.Quantized.the-variants.{Value, Refused as NotGiven}
 use Rattle.quantize.specs.Quantize.{quantizeAnswer}
 use Rattle.worked.specs.Cases.{Case, gives}
 
@@ -15,7 +15,7 @@ lifted (negsuc n) = 32767 - n
 
 abbrev pub asNumber : Quantized → ℕ
 asNumber (Value z) = lifted z
-asNumber (Denied r at) = codeOf r
+asNumber (NotGiven r at) = codeOf r
 
 unfoldable pub conversionCases : List Case
 conversionCases =

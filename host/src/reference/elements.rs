@@ -88,6 +88,6 @@ pub fn integers_saturate(x: i64, low: i64, high: i64) -> i64 {
     }
 }
 
-pub fn refusal_size_taken(most: u32, n: u32) -> bool {
+pub fn refusal_size_valid(most: u32, n: u32) -> bool {
     (1..=most).contains(&n)
 }

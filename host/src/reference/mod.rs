@@ -22,7 +22,7 @@ pub use cube::{
 };
 pub use elements::{
     elements_check_values, elements_element_bytes, elements_from_byte, elements_from_bytes,
-    elements_high_byte, elements_low_byte, integers_saturate, refusal_size_taken,
+    elements_high_byte, elements_low_byte, integers_saturate, refusal_size_valid,
 };
 pub use lookup::{lut_run_exponential, lut_run_linear};
 pub use pixels::{pixels_position, pixels_setting};

@@ -6,7 +6,7 @@ use lib.Signed.{ltZ}
 use mir.Facts.{toZ-ofZ}
 use Rattle.lut.specs.Numbers.{between}
 use Rattle.camera.specs.declared.Ready.the-variants.{Setting}
-use Rattle.camera.proofs.ReadyLaws.{taken-between, answer-below, answer-above, answer-setting}
+use Rattle.camera.proofs.ReadyLaws.{valid-between, answer-below, answer-above, answer-setting}
 use Rattle.camera.proofs.ready_made.Statement.{statement}
 use Rattle.camera.proofs.ready_made.Tie as tie
 
@@ -26,19 +26,19 @@ returns-2 c = let d = c .before in
     answer-above (a .select) (a .priority) (a .overflow) (a .underflow) (not-below d) h
 
 -- both tests let the select pass
-taken : (c : tie.Else2) → between (pos 2) (pos 22) (c .before .before .args .select) ≡ true
-taken c = let d = c .before in
+valid : (c : tie.Else2) → between (pos 2) (pos 22) (c .before .before .args .select) ≡ true
+valid c = let d = c .before in
     let h : ltZ (pos 22) (d .before .args .select) ≡ false = simp (toZ-ofZ (d .before .fits .select)) at (c .if2 .left) in
-    taken-between (pos 2) (pos 22) (d .before .args .select) (not-below d) h
+    valid-between (pos 2) (pos 22) (d .before .args .select) (not-below d) h
 
 settings-requires : tie.Need-settings-requires
-settings-requires c κs = rw (toZ-ofZ (c .before .before .fits .select)) (taken c)
+settings-requires c κs = rw (toZ-ofZ (c .before .before .fits .select)) (valid c)
 
 returns-3 : tie.Need-returns-3
 returns-3 c = let s = c .before .before .before in
     let a = s .args in
     ap Setting (c .settings .ensures ∙ rw (toZ-ofZ (s .fits .select)))
-    ∙ answer-setting (a .select) (a .priority) (a .overflow) (a .underflow) (taken (c .before))
+    ∙ answer-setting (a .select) (a .priority) (a .overflow) (a .underflow) (valid (c .before))
 
 pub ready-made-spec : {M : Type 1} → statement M
 ready-made-spec = tie.close (tie.spec returns returns-2 settings-requires returns-3)

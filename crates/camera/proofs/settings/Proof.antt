@@ -9,7 +9,7 @@ use mir.Facts.{toZ-ofZ}
 use Rattle.lut.specs.declared.XMode.the-variants.{Linear}
 use Rattle.lut.specs.Numbers.{scaled}
 use Rattle.camera.specs.Ready.{flat, readySettings}
-use Rattle.camera.proofs.ReadyLaws.{low-fits, low-value, low-taken, select-taken}
+use Rattle.camera.proofs.ReadyLaws.{low-fits, low-value, low-valid, select-valid}
 use Rattle.camera.proofs.settings.Statement.{statement}
 use Rattle.camera.proofs.settings.Tie as tie
 
@@ -17,10 +17,10 @@ sub-x-select : tie.Need-sub-x-select
 sub-x-select c = low-fits (c .fits .select) (c .pre)
 
 end-of-requires : tie.Need-end-of-requires
-end-of-requires c κs = (lit≤ tt, rw (low-value (c .fits .select) (c .pre)) (low-taken (c .fits .select) (c .pre)))
+end-of-requires c κs = (lit≤ tt, rw (low-value (c .fits .select) (c .pre)) (low-valid (c .fits .select) (c .pre)))
 
 end-of-requires-2 : tie.Need-end-of-requires-2
-end-of-requires-2 c κs = let s = c .before in (lit≤ tt, rw (toZ-ofZ (s .fits .select)) (select-taken (s .fits .select) (s .pre)))
+end-of-requires-2 c κs = let s = c .before in (lit≤ tt, rw (toZ-ofZ (s .fits .select)) (select-valid (s .fits .select) (s .pre)))
 
 chosen-requires : tie.Need-chosen-requires
 chosen-requires c κs = search needs

@@ -17,7 +17,7 @@ enum-told-2 c = search needs
 returns : tie.Need-returns
 returns c = let d = c .before .before in
     let a = d .before .args in
-    c .enum-told2 .given .1 ∙ write-refused (a .layout) (a .area) (a .elements .now) (a .len) (sym (d .admit .ensures) ∙ c .enum-told2 .given .1)
+    c .enum-told2 .given .1 ∙ write-refused (a .layout) (a .b) (a .elements .now) (a .len) (sym (d .admit .ensures) ∙ c .enum-told2 .given .1)
 
 check-values-requires : tie.Need-check-values-requires
 check-values-requires c κs = search needs
@@ -25,7 +25,7 @@ check-values-requires c κs = search needs
 returns-2 : tie.Need-returns-2
 returns-2 c = let d = c .before .before .before in
     let a = d .before .args in
-    c .check-values .ensures ∙ write-values (a .layout) (a .area) (a .elements .now) (a .len) (sym (d .admit .ensures) ∙ c .before .enum-told .given .1)
+    c .check-values .ensures ∙ write-values (a .layout) (a .b) (a .elements .now) (a .len) (sym (d .admit .ensures) ∙ c .before .enum-told .given .1)
 
 pub judge-spec : {M : Type 1} → statement M
 judge-spec =

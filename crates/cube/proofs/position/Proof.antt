@@ -4,12 +4,12 @@ use mathlib.Core.Path.{_≡_, sym, ap, _∙_}
 use Rattle.refusal.specs.declared.Answer.the-variants.{Accepted}
 use Rattle.refusal.specs.declared.Quantity.the-variants.{Is}
 use Rattle.refusal.specs.Checks.{inOrder}
-use Rattle.refusal.proofs.CheckLaws.{quantity-is, quantity-denied}
+use Rattle.refusal.proofs.CheckLaws.{result-given, result-refused}
 use Rattle.layout.specs.Geometry.{elementPosition}
 use Rattle.layout.specs.Boxes.{oneElement}
 use Rattle.layout.specs.Rules.{boxChecks}
 use Rattle.layout.specs.Calls.{positionQuantity}
-use Rattle.layout.proofs.CallLaws.{box-layout, box-area-taken}
+use Rattle.layout.proofs.CallLaws.{box-layout, boxChecks-valid}
 use borrow.Author.Needs.{needs}
 use Rattle.cube.proofs.position.Statement.{statement}
 use Rattle.cube.proofs.position.Tie as tie
@@ -28,19 +28,19 @@ enum-told c = search needs
 
 position-of-requires : tie.Need-position-of-requires
 position-of-requires c κs = let a = c .before .before .before .args in
-    let t = box-area-taken (a .layout) (oneElement (a .channel) (a .row) (a .column)) (accepted c) in
+    let t = boxChecks-valid (a .layout) (oneElement (a .channel) (a .row) (a .column)) (accepted c) in
     (box-layout (a .layout) (oneElement (a .channel) (a .row) (a .column)) (accepted c), (omega (arith, t .channels .fit), omega (arith, t .rows .fit), omega (arith, t .columns .fit)))
 
 returns : tie.Need-returns
 unfolding positionQuantity
 returns c = let d = c .before .before .before in
     let a = d .before .args in
-    sym (quantity-denied (elementPosition (a .layout) (a .channel) (a .row) (a .column)) (sym (d .check-box .ensures) ∙ c .before .refusal .given .1))
+    sym (result-refused _ _ (elementPosition (a .layout) (a .channel) (a .row) (a .column)) (sym (d .check-box .ensures) ∙ c .before .refusal .given .1))
 
 returns-2 : tie.Need-returns-2
 unfolding positionQuantity
 returns-2 c = let a = c .before .before .before .before .args in
-    ap Is (c .position-of .ensures) ∙ sym (quantity-is (elementPosition (a .layout) (a .channel) (a .row) (a .column)) (accepted (c .before)))
+    ap Is (c .position-of .ensures) ∙ sym (result-given _ _ (elementPosition (a .layout) (a .channel) (a .row) (a .column)) (accepted (c .before)))
 
 pub position-spec : {M : Type 1} → statement M
 position-spec =

@@ -11,7 +11,7 @@ use Rattle.cube.proofs.read_box.Tie as tie
 abbrev start : tie.After-enum-told → tie.Start
 start c = c .before .before .before .before
 
-accepted : (c : tie.After-enum-told) → readBoxAnswer (start c .args .layout) (start c .args .area) (length (start c .args .elements .now)) (length (start c .args .buffer .now)) ≡ Accepted
+accepted : (c : tie.After-enum-told) → readBoxAnswer (start c .args .layout) (start c .args .b) (length (start c .args .elements .now)) (length (start c .args .buffer .now)) ≡ Accepted
 unfolding readBoxAnswer
 accepted c = sym (c .before .before .admit .ensures) ∙ c .enum-told .given .1
 
@@ -28,7 +28,7 @@ returns : tie.Need-returns
 unfolding readBoxAnswer
 returns c = let d = c .before .before in
     let a = d .before .before .args in
-    (d .admit .ensures, read-kept (a .layout) (a .area) (a .buffer .now) (a .elements .now) (sym (d .admit .ensures) ∙ c .enum-told2 .given .1))
+    (d .admit .ensures, read-kept (a .layout) (a .b) (a .buffer .now) (a .elements .now) (sym (d .admit .ensures) ∙ c .enum-told2 .given .1))
 
 all-requires : tie.Need-all-requires
 unfolding readBoxAnswer
@@ -42,7 +42,7 @@ unfolding readBoxAnswer
 returns-2 c = let f = c .before in
     let e = f .before .before in
     let a = start e .args in
-    (sym (accepted e), was-read (a .layout) (a .area) (a .buffer .now) (a .elements .now) (accepted e) (f .all .ensures))
+    (sym (accepted e), was-read (a .layout) (a .b) (a .buffer .now) (a .elements .now) (accepted e) (f .all .ensures))
 
 pub read-box-spec : {M : Type 1} → statement M
 read-box-spec =

@@ -15,7 +15,7 @@ use Rattle.cube.proofs.write_box.Tie as tie
 abbrev start : tie.After-enum-told → tie.Start
 start c = c .before .before .before .before
 
-accepted : (c : tie.After-enum-told) → writeBoxAnswer (start c .args .layout) (start c .args .area) (start c .args .elements .now) (length (start c .args .buffer .now)) ≡ Accepted
+accepted : (c : tie.After-enum-told) → writeBoxAnswer (start c .args .layout) (start c .args .b) (start c .args .elements .now) (length (start c .args .buffer .now)) ≡ Accepted
 accepted c = sym (c .before .before .judge .ensures) ∙ c .enum-told .given .1
 
 judge-requires : tie.Need-judge-requires
@@ -30,13 +30,13 @@ enum-told-2 c = search needs
 returns : tie.Need-returns
 returns c = let d = c .before .before in
     let a = d .before .before .args in
-    (d .judge .ensures, write-kept (a .layout) (a .area) (a .elements .now) (a .buffer .now) (sym (d .judge .ensures) ∙ c .enum-told2 .given .1))
+    (d .judge .ensures, write-kept (a .layout) (a .b) (a .elements .now) (a .buffer .now) (sym (d .judge .ensures) ∙ c .enum-told2 .given .1))
 
 differ : false ≡ true → ⊥
 differ t = let z : _≡_ {A = ℕ} 0 1 = cc in omega arith
 
 all-requires : tie.Need-all-requires
-all-requires c κs = let a = start (c .before) .args in (write-admitted (a .layout) (a .area) (a .elements .now) (length (a .buffer .now)) (accepted (c .before)), λ t. absurd (differ t))
+all-requires c κs = let a = start (c .before) .args in (write-admitted (a .layout) (a .b) (a .elements .now) (length (a .buffer .now)) (accepted (c .before)), λ t. absurd (differ t))
 
 same-length : tie.Need-same-length
 same-length c = search needs
@@ -45,7 +45,7 @@ returns-2 : tie.Need-returns-2
 returns-2 c = let f = c .before .before in
     let e = f .before .before in
     let a = start e .args in
-    (sym (accepted e), written (a .layout) (a .area) (a .elements .now) (a .buffer .now) (accepted e) (f .all .ensures))
+    (sym (accepted e), written (a .layout) (a .b) (a .elements .now) (a .buffer .now) (accepted e) (f .all .ensures))
 
 pub write-box-spec : {M : Type 1} → statement M
 write-box-spec =

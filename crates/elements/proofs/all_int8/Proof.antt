@@ -1,5 +1,5 @@
 -- `elements::all_int8` meets its contract. The loop's invariant: the least and the greatest of 0 and the first i elements lie in -128..127 just
--- if each of these elements is taken. The measure is what is left of the length. Assumes nothing.
+-- if each of these elements is valid. The measure is what is left of the length. Assumes nothing.
 use Prim.Native.Nat.{ℕ, _≤_, _-_}
 use mathlib.Core.Path.{_≡_, ap, _∙_}
 use native.Mathlib.Omega.{arith}
@@ -8,19 +8,19 @@ use lib.IntN.{pos, negsuc}
 use lib.ListN.{length, getD}
 use mir.Syntax.{w16}
 use mir.Val.{toZ}
-use Rattle.elements.specs.Scan.{allTaken}
-use Rattle.elements.proofs.ScanLaws.{read-back, inRange, allTaken-none, allTaken-next}
+use Rattle.elements.specs.Steps.{allValid}
+use Rattle.elements.proofs.StepLaws.{read-back, inRange, allValid-none, allValid-next}
 use Rattle.elements.proofs.all_int8.Statement.{statement}
 use Rattle.elements.proofs.all_int8.Tie as tie
 
 abbrev Inv-loop : tie.InvT-loop
-Inv-loop elements low₀ high₀ i₀ low high i = (i ≤ length elements) × (inRange (toZ w16 low) (toZ w16 high) ≡ allTaken 0 elements i)
+Inv-loop elements low₀ high₀ i₀ low high i = (i ≤ length elements) × (inRange (toZ w16 low) (toZ w16 high) ≡ allValid 0 elements i)
 
 abbrev μ-loop : tie.MeasureT-loop
 μ-loop elements low₀ high₀ i₀ low high i = length elements - i
 
 loop-holds : tie.Need-loop-holds Inv-loop μ-loop
-loop-holds c = (omega arith, allTaken-none 0 (c .args .elements .now))
+loop-holds c = (omega arith, allValid-none 0 (c .args .elements .now))
 
 mul-x : tie.Need-mul-x Inv-loop μ-loop
 mul-x c = search needs
@@ -47,7 +47,7 @@ loop-again c =
     let low = c .before .lesser in
     let high = c .greater in
     let x = read-back (getD zs (l .i) (pos 0)) (c .before .before .x .given) in
-    let more = allTaken-next zs (l .i) (toZ w16 (l .low)) (toZ w16 (l .high)) (low .result) (high .result) _ x (l .inv .1) in
+    let more = allValid-next zs (l .i) (toZ w16 (l .low)) (toZ w16 (l .high)) (low .result) (high .result) _ x (l .inv .1) in
     let next = more (low .ensures (negsuc 127)) (high .ensures (pos 127)) in
     (omega arith, rw (read-back (low .result) (low .ok), read-back (high .result) (high .ok)) next)
 
@@ -55,7 +55,7 @@ returns : tie.Need-returns Inv-loop μ-loop
 returns c =
     let zs = c .before .before .args .elements .now in
     let whole : c .before .loop .i ≡ length zs = omega arith in
-    c .before .loop .inv .1 ∙ ap (λ (n : ℕ). allTaken 0 zs n) whole
+    c .before .loop .inv .1 ∙ ap (λ (n : ℕ). allValid 0 zs n) whole
 
 pub all-int8-spec : {M : Type 1} → statement M
 all-int8-spec =

@@ -1,11 +1,11 @@
--- `elements::check_values` meets its contract: a precision other than int8 takes every element; else all elements are taken, or the first at
+-- `elements::check_values` meets its contract: a precision other than int8 takes every element; else all elements are valid, or the first at
 -- fault is found. Assumes nothing.
 use mathlib.Core.Path.{_≡_, sym, _∙_}
 use mathlib.Core.Bool.{true}
 use lib.ListN.{length}
-use Rattle.elements.specs.Scan.{allTaken}
+use Rattle.elements.specs.Steps.{allValid}
 use Rattle.elements.proofs.ValueLaws.{valueChecks-all, valueChecks-other}
-use Rattle.elements.proofs.ScanLaws.{allTaken-at}
+use Rattle.elements.proofs.StepLaws.{allValid-at}
 use borrow.Author.Needs.{needs}
 use Rattle.elements.proofs.check_values.Statement.{statement}
 use Rattle.elements.proofs.check_values.Tie as tie
@@ -20,8 +20,8 @@ returns-2 : tie.Need-returns-2
 returns-2 c =
     let a = c .before .before .before .args in
     let zs = a .elements .now in
-    let all : allTaken 0 zs (length zs) ≡ true = sym (c .before .all-int8 .ensures) ∙ c .if2 .taken in
-    sym (rw (c .before .before .if1 .left) (valueChecks-all 0 zs (allTaken-at 0 zs (length zs) all)))
+    let all : allValid 0 zs (length zs) ≡ true = sym (c .before .all-int8 .ensures) ∙ c .if2 .taken in
+    sym (rw (c .before .before .if1 .left) (valueChecks-all 0 zs (allValid-at 0 zs (length zs) all)))
 
 first-outside-requires : tie.Need-first-outside-requires
 first-outside-requires c κs = sym (c .before .all-int8 .ensures) ∙ c .if2 .left

@@ -24,18 +24,18 @@ enum-told-2 c = search needs
 returns : tie.Need-returns
 returns c = let d = c .before .before in
     let a = d .before .args in
-    c .enum-told2 .given .1 ∙ box-refused (a .layout) (a .area) (sym (d .check .ensures) ∙ c .enum-told2 .given .1)
+    c .enum-told2 .given .1 ∙ box-refused (a .layout) (a .b) (sym (d .check .ensures) ∙ c .enum-told2 .given .1)
 
 box-inside-requires : tie.Need-box-inside-requires
 box-inside-requires c κs = search needs
 
 returns-2 : tie.Need-returns-2
 returns-2 c = let a = c .before .before .before .before .before .args in
-    box-outside (a .layout) (a .area) (held (c .before .before)) (sym (c .before .box-inside .ensures) ∙ not-true _ (c .if1 .taken))
+    box-outside (a .layout) (a .b) (held (c .before .before)) (sym (c .before .box-inside .ensures) ∙ not-true _ (c .if1 .taken))
 
 returns-3 : tie.Need-returns-3
 returns-3 c = let a = c .before .before .before .before .before .args in
-    box-accepted (a .layout) (a .area) (held (c .before .before)) (sym (c .before .box-inside .ensures) ∙ not-false _ (c .if1 .left))
+    box-accepted (a .layout) (a .b) (held (c .before .before)) (sym (c .before .box-inside .ensures) ∙ not-false _ (c .if1 .left))
 
 pub check-box-spec : {M : Type 1} → statement M
 check-box-spec =

@@ -1,6 +1,6 @@
 -- `layout::extent` meets its contract: it checks, and measures an accepted layout. Assumes nothing.
 use mathlib.Core.Path.{sym, ap, _∙_}
-use Rattle.refusal.proofs.CheckLaws.{quantity-is, quantity-denied}
+use Rattle.refusal.proofs.CheckLaws.{result-given, result-refused}
 use Rattle.refusal.specs.declared.Quantity.the-variants.{Is}
 use Rattle.layout.specs.Geometry.{cubeExtent}
 use Rattle.layout.specs.Calls.{extentQuantity}
@@ -23,13 +23,13 @@ extent-bytes-requires c κs = sym (c .before .before .check .ensures) ∙ c .enu
 returns : tie.Need-returns
 unfolding extentQuantity
 returns c = let d = c .before .before .before in
-    sym (quantity-denied (cubeExtent (d .before .args .layout)) (sym (d .check .ensures) ∙ c .before .refusal .given .1))
+    sym (result-refused _ _ (cubeExtent (d .before .args .layout)) (sym (d .check .ensures) ∙ c .before .refusal .given .1))
 
 returns-2 : tie.Need-returns-2
 unfolding extentQuantity
 returns-2 c = let d = c .before .before .before in
     let q = d .before .args .layout in
-    ap Is (c .extent-bytes .ensures) ∙ sym (quantity-is (cubeExtent q) (sym (d .check .ensures) ∙ c .before .enum-told .given .1))
+    ap Is (c .extent-bytes .ensures) ∙ sym (result-given _ _ (cubeExtent q) (sym (d .check .ensures) ∙ c .before .enum-told .given .1))
 
 pub extent-spec : {M : Type 1} → statement M
 extent-spec =

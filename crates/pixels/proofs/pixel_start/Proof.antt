@@ -4,7 +4,7 @@ use native.Mathlib.Omega.{arith}
 use mathlib.Core.Path.{_≡_, ap, subst⁻¹}
 use Rattle.pixels.specs.declared.PixelFormat.{PixelFormat}
 use Rattle.pixels.specs.Settings.{pixelPosition}
-use Rattle.pixels.proofs.Taken.{taken}
+use Rattle.pixels.proofs.Valid.{valid}
 use Rattle.pixels.proofs.PositionLaws.{position-lt}
 use borrow.Author.Needs.{needs}
 use Rattle.pixels.proofs.pixel_start.Statement.{statement}
@@ -23,10 +23,10 @@ sum-is c = let a = c .before .args in
 sum-lt : (c : tie.After-format-of) → c .before .args .image .line < 2 ^ 32 → c .before .args .image .start < 2 ^ 32 → sum-at c < 2 ^ 46
 sum-lt c l s = let a = c .before .args in
     let p = c .before .pre in
-    subst⁻¹ (λ (n : ℕ). n < 2 ^ 46) (sum-is c) (position-lt (a .image) (taken (a .image) (p .0)) (a .x) (a .y) (p .1) (p .2) l s)
+    subst⁻¹ (λ (n : ℕ). n < 2 ^ 46) (sum-is c) (position-lt (a .image) (valid (a .image) (p .0)) (a .x) (a .y) (p .1) (p .2) l s)
 
 format-of-requires : tie.Need-format-of-requires
-format-of-requires c κs = taken (c .args .image) (c .pre .0) .known
+format-of-requires c κs = valid (c .args .image) (c .pre .0) .known
 
 cast-lines : tie.Need-cast-lines
 cast-lines c = search needs

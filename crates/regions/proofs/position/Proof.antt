@@ -3,7 +3,7 @@ use mathlib.Core.Path.{_≡_, sym, _∙_}
 use borrow.Author.Needs.{needs}
 use Rattle.refusal.specs.declared.Answer.the-variants.{Accepted}
 use Rattle.refusal.specs.Checks.{inOrder}
-use Rattle.refusal.proofs.CheckLaws.{quantity-denied}
+use Rattle.refusal.proofs.CheckLaws.{result-refused}
 use Rattle.layout.specs.Boxes.{oneElement}
 use Rattle.regions.specs.Slots.{slotsOf}
 use Rattle.regions.specs.Rules.{regionBoxChecks}
@@ -35,7 +35,7 @@ position-requires c κs = search needs
 returns : tie.Need-returns
 unfolding regionPosition
 returns c = let d = c .before .before .before in
-    sym (quantity-denied _ (sym (d .check-box .ensures) ∙ c .before .refusal .given .1))
+    sym (result-refused _ _ _ (sym (d .check-box .ensures) ∙ c .before .refusal .given .1))
 
 returns-2 : tie.Need-returns-2
 returns-2 c = let e = c .before .before in

@@ -9,7 +9,7 @@ use borrow.Author.Needs.{needs}
 use Rattle.script.specs.declared.Fed.{Fed}
 use Rattle.script.specs.Feed.{partFed, wholePart}
 use Rattle.script.proofs.CallLaws.{part-next}
-use Rattle.script.proofs.Theorem as script
+use Rattle.script.proofs.Claims as script
 use Rattle.sheet_io.proofs.feed_all.Statement.{statement}
 use Rattle.sheet_io.proofs.feed_all.Tie as tie
 

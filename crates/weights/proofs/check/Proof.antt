@@ -3,22 +3,22 @@ use Prim.Native.Nat.{ℕ, _≤_, _<_}
 use mathlib.Core.Path.{_≡_, sym, _∙_, subst}
 use mathlib.Core.Bool.{true}
 use borrow.Author.Tests.{not-true, not-false}
-use Rattle.weights.specs.Rules.{sizesTaken}
-use Rattle.weights.proofs.RuleLaws.{check-sizes, check-precision, check-count, check-room, check-taken}
+use Rattle.weights.specs.Rules.{sizesValid}
+use Rattle.weights.proofs.RuleLaws.{check-sizes, check-precision, check-count, check-room, check-valid}
 use borrow.Author.Needs.{needs}
 use Rattle.weights.proofs.check.Statement.{statement}
 use Rattle.weights.proofs.check.Tie as tie
 
--- the sizes were taken
-held : (c : tie.Else1) → sizesTaken (c .before .before .args .layout) ≡ true
-held c = sym (c .before .sizes-taken .ensures) ∙ not-false _ (c .if1 .left)
+-- the sizes were valid
+held : (c : tie.Else1) → sizesValid (c .before .before .args .layout) ≡ true
+held c = sym (c .before .sizes-valid .ensures) ∙ not-false _ (c .if1 .left)
 
-sizes-taken-requires : tie.Need-sizes-taken-requires
-sizes-taken-requires c κs = search needs
+sizes-valid-requires : tie.Need-sizes-valid-requires
+sizes-valid-requires c κs = search needs
 
 returns : tie.Need-returns
 returns c = let a = c .before .before .args in
-    check-sizes (a .layout) (a .given) (a .len) (sym (c .before .sizes-taken .ensures) ∙ not-true _ (c .if1 .taken))
+    check-sizes (a .layout) (a .given) (a .len) (sym (c .before .sizes-valid .ensures) ∙ not-true _ (c .if1 .taken))
 
 returns-2 : tie.Need-returns-2
 returns-2 c = let d = c .before .before in
@@ -50,14 +50,14 @@ returns-5 c = let n = c .before .before in
     let p = n .before .before in
     let d = p .before .before in
     let a = d .before .before .args in
-    check-taken (a .layout) (a .given) (a .len) (held d) (p .if2 .left) (n .if3 .left ∙ n .before .element-count .ensures)
+    check-valid (a .layout) (a .given) (a .len) (held d) (p .if2 .left) (n .if3 .left ∙ n .before .element-count .ensures)
     (subst (λ (s : ℕ). s ≤ a .len) (c .before .surface-bytes .ensures) (c .if4 .left))
 
 pub check-spec : {M : Type 1} → statement M
 check-spec =
     tie.close
     (tie.spec
-    sizes-taken-requires
+    sizes-valid-requires
     returns
     returns-2
     element-count-requires

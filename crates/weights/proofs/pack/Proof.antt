@@ -7,7 +7,7 @@ use Rattle.refusal.specs.declared.Answer.the-variants.{Accepted}
 use Rattle.refusal.specs.Checks.{inOrder}
 use Rattle.elements.specs.Values.{valueChecks}
 use Rattle.weights.specs.Rules.{weightChecks}
-use Rattle.weights.proofs.CallLaws.{Admitted, admitted, pack-refused, pack-outside, pack-taken}
+use Rattle.weights.proofs.CallLaws.{Admitted, admitted, pack-refused, pack-outside, pack-valid}
 use Rattle.weights.proofs.SurfaceLaws.{surface-ge}
 use Rattle.weights.proofs.WriteLaws.{write-packed}
 use borrow.Author.Needs.{needs}
@@ -95,7 +95,7 @@ returns-3 c =
     let d = checked w in
     let a = entry d .args in
     let q = a .layout in
-    let p = pack-taken q (a .elements .now) (a .buffer .now) (passed d) (values (written-at w)) in (
+    let p = pack-valid q (a .elements .now) (a .buffer .now) (passed d) (values (written-at w)) in (
       p .0,
       write-packed q (a .elements .now) (a .buffer .now) (adm d .room) (b .before .weight-bytes .ensures) (b .surface-bytes .ensures) (w .before .before .runs .ensures) (f .clear .ensures)
           ∙ p .1,

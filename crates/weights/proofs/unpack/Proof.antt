@@ -5,7 +5,7 @@ use lib.ListN.{length}
 use Rattle.refusal.specs.declared.Answer.the-variants.{Accepted}
 use Rattle.refusal.specs.Checks.{inOrder}
 use Rattle.weights.specs.Rules.{weightChecks}
-use Rattle.weights.proofs.CallLaws.{unpack-refused, unpack-taken}
+use Rattle.weights.proofs.CallLaws.{unpack-refused, unpack-valid}
 use borrow.Author.Needs.{needs}
 use Rattle.weights.proofs.unpack.Statement.{statement}
 use Rattle.weights.proofs.unpack.Tie as tie
@@ -42,7 +42,7 @@ returns-2 : tie.Need-returns-2
 returns-2 c =
     let d = c .before .before .before in
     let a = d .before .before .before .before .args in
-    let p = unpack-taken (a .layout) (a .buffer .now) (a .elements .now) (passed d) in
+    let p = unpack-valid (a .layout) (a .buffer .now) (a .elements .now) (passed d) in
     (p .0, c .before .runs .ensures ∙ p .1)
 
 pub unpack-spec : {M : Type 1} → statement M

@@ -22,47 +22,47 @@ use Rattle.cube.proofs.write.all.Statement.{statement}
 use Rattle.cube.proofs.write.all.Tie as tie
 
 abbrev Inv-loop2 : tie.InvT-loop2
-Inv-loop2 layout area pad elements buffer₀ e first channels rows n m r₀ buffer r =
-    (r ≤ area .rows)
-    × ((before goal : List ℕ) → length buffer₀ ≡ length before → Goal layout area pad elements before goal
-    → Toward 0 goal buffer₀ buffer × Rows (Reached layout area pad goal buffer) n m r)
+Inv-loop2 layout box pad elements buffer₀ e first channels rows n m r₀ buffer r =
+    (r ≤ box .rows)
+    × ((before goal : List ℕ) → length buffer₀ ≡ length before → Goal layout box pad elements before goal
+    → Toward 0 goal buffer₀ buffer × Rows (Reached layout box pad goal buffer) n m r)
 
 abbrev μ-loop2 : tie.MeasureT-loop2
-μ-loop2 layout area pad elements buffer₀ e first channels rows n m r₀ buffer r = area .rows - r
+μ-loop2 layout box pad elements buffer₀ e first channels rows n m r₀ buffer r = box .rows - r
 
 abbrev Inv-loop : tie.InvT-loop
-Inv-loop layout area pad elements buffer₀ e first channels rows n₀ buffer n =
-    (n ≤ area .channels) × (pad ≡ true → n < area .channels → n * sizeOf layout % 32 ≡ 0)
-    × Toward 0 (boxWritten layout area pad elements buffer₀) buffer₀ buffer
-    × Before (Reached layout area pad (boxWritten layout area pad elements buffer₀) buffer) (area .rows) n
+Inv-loop layout box pad elements buffer₀ e first channels rows n₀ buffer n =
+    (n ≤ box .channels) × (pad ≡ true → n < box .channels → n * sizeOf layout % 32 ≡ 0)
+    × Toward 0 (boxWritten layout box pad elements buffer₀) buffer₀ buffer
+    × Before (Reached layout box pad (boxWritten layout box pad elements buffer₀) buffer) (box .rows) n
 
 abbrev μ-loop : tie.MeasureT-loop
-μ-loop layout area pad elements buffer₀ e first channels rows n₀ buffer n = area .channels - n
+μ-loop layout box pad elements buffer₀ e first channels rows n₀ buffer n = box .channels - n
 
 abbrev goal : tie.Start Inv-loop2 μ-loop2 Inv-loop μ-loop → List ℕ
-goal s = let a = s .args in boxWritten (a .layout) (a .area) (a .pad) (a .elements .now) (a .buffer .now)
+goal s = let a = s .args in boxWritten (a .layout) (a .b) (a .pad) (a .elements .now) (a .buffer .now)
 
-adm : (s : tie.Start Inv-loop2 μ-loop2 Inv-loop μ-loop) → let a = s .args in Admitted (a .layout) (a .area) (length (a .elements .now)) (length (a .buffer .now))
-adm s = let a = s .args in admitted (a .layout) (a .area) (length (a .elements .now)) (length (a .buffer .now)) (s .pre .0)
+adm : (s : tie.Start Inv-loop2 μ-loop2 Inv-loop μ-loop) → let a = s .args in Admitted (a .layout) (a .b) (length (a .elements .now)) (length (a .buffer .now))
+adm s = let a = s .args in admitted (a .layout) (a .b) (length (a .elements .now)) (length (a .buffer .now)) (s .pre .0)
 
-is-goal : (s : tie.Start Inv-loop2 μ-loop2 Inv-loop μ-loop) → let a = s .args in Goal (a .layout) (a .area) (a .pad) (a .elements .now) (a .buffer .now) (goal s)
-is-goal s = let a = s .args in written-goal (a .layout) (adm s .layout) (a .area) (adm s .area) (a .pad) (s .pre .1) (a .elements .now) (a .buffer .now) (adm s .room)
+is-goal : (s : tie.Start Inv-loop2 μ-loop2 Inv-loop μ-loop) → let a = s .args in Goal (a .layout) (a .b) (a .pad) (a .elements .now) (a .buffer .now) (goal s)
+is-goal s = let a = s .args in written-goal (a .layout) (adm s .layout) (a .b) (adm s .inside) (a .pad) (s .pre .1) (a .elements .now) (a .buffer .now) (adm s .room)
 
-rows-small : (s : tie.Start Inv-loop2 μ-loop2 Inv-loop μ-loop) → s .args .area .rows ≤ 8192
-rows-small s = omega (arith, adm s .area .rows .fit, adm s .layout .height-le)
+rows-small : (s : tie.Start Inv-loop2 μ-loop2 Inv-loop μ-loop) → s .args .b .rows ≤ 8192
+rows-small s = omega (arith, adm s .inside .rows .fit, adm s .layout .height-le)
 
 -- the channels of one atom
 end-is : (c : tie.After-atom-end Inv-loop2 μ-loop2 Inv-loop μ-loop) → let a = c .before .before .before .before .before .args in
-    AtomEnd (sizeOf (a .layout)) (a .area .channel) (a .area .channels) (c .before .before .loop .n) (c .atom-end .result)
+    AtomEnd (sizeOf (a .layout)) (a .b .channel) (a .b .channels) (c .before .before .loop .n) (c .atom-end .result)
 end-is c =
     let l = c .before .before in
     let a = l .before .before .before .args in
-    subst (λ (e : ℕ). AtomEnd e (a .area .channel) (a .area .channels) (l .loop .n) (c .atom-end .result)) (l .before .element-bytes .ensures) (c .atom-end .ensures)
+    subst (λ (e : ℕ). AtomEnd e (a .b .channel) (a .b .channels) (l .loop .n) (c .atom-end .result)) (l .before .element-bytes .ensures) (c .atom-end .ensures)
 
 -- in the whole cube, the next channels begin an atom
-begins : (s : tie.Start Inv-loop2 μ-loop2 Inv-loop μ-loop) → s .args .pad ≡ true → (m : ℕ) → (s .args .area .channel + m) * sizeOf (s .args .layout) % 32 ≡ 0 → m * sizeOf (s .args .layout) % 32 ≡ 0
+begins : (s : tie.Start Inv-loop2 μ-loop2 Inv-loop μ-loop) → s .args .pad ≡ true → (m : ℕ) → (s .args .b .channel + m) * sizeOf (s .args .layout) % 32 ≡ 0 → m * sizeOf (s .args .layout) % 32 ≡ 0
 begins s t m e = let a = s .args in
-    let zero : a .area .channel + m ≡ m = omega (arith, ap (λ (b : ElementBox). b .channel) (s .pre .1 t)) in
+    let zero : a .b .channel + m ≡ m = omega (arith, ap (λ (b : ElementBox). b .channel) (s .pre .1 t)) in
     ap (λ (x : ℕ). x * sizeOf (a .layout) % 32) (sym zero) ∙ e
 
 -- one turn of the rows' loop
@@ -70,8 +70,8 @@ turn : (c : tie.After-slice-known2 Inv-loop2 μ-loop2 Inv-loop μ-loop) → let 
     let l2 = i .before in
     let t = l2 .before in
     let a = t .before .before .before .before .before .args in
-    (before g : List ℕ) → length (t .before .before .loop .buffer) ≡ length before → Goal (a .layout) (a .area) (a .pad) (a .elements .now) before g
-    → Toward 0 g (t .before .before .loop .buffer) (c .before .before .row2 .last .1 .1 .1 .0) × Rows (Reached (a .layout) (a .area) (a .pad) g (c .before .before .row2 .last .1 .1 .1 .0)) (t .before .before .loop .n) (t .atom-end .result) (l2 .loop2 .r + 1)
+    (before g : List ℕ) → length (t .before .before .loop .buffer) ≡ length before → Goal (a .layout) (a .b) (a .pad) (a .elements .now) before g
+    → Toward 0 g (t .before .before .loop .buffer) (c .before .before .row2 .last .1 .1 .1 .0) × Rows (Reached (a .layout) (a .b) (a .pad) g (c .before .before .row2 .last .1 .1 .1 .0)) (t .before .before .loop .n) (t .atom-end .result) (l2 .loop2 .r + 1)
 turn c before g h w =
     let f = c .before .before in
     let i = f .before .before .before in
@@ -84,14 +84,14 @@ turn c before g h w =
     let m = t .atom-end .result in
     let so = l2 .loop2 .inv .1 before g h w in
     let room = subst (λ (x : ℕ). a .layout .start + cubeExtent (a .layout) ≤ x) (sym (l .loop .inv .2 .long) ∙ h) (d .room) in
-    let is : _≡_ {A = List ℕ} (f .row2 .last .1 .1 .1 .0) (rowWritten (rowBlock (a .layout) (a .area) (l .loop .n) m (l2 .loop2 .r)) (a .pad && eqb m (a .area .channels)) (a .elements .now) (l2 .loop2 .buffer)) =
-    f .row2 .ensures ∙ ap (λ (b : ColumnBlock). rowWritten b (a .pad && eqb m (a .area .channels)) (a .elements .now) (l2 .loop2 .buffer)) (f .before .before .row .ensures) in
-    let one = row-done (a .layout) (d .layout) (a .area) (d .area) (a .pad) (a .elements .now) (d .count) before g room w (l .loop .n) m (l2 .loop2 .r) (end-is t) (i .loop2-test .taken)
-    (λ pt. l .loop .inv .1 pt (t .before .loop-test .taken)) (l2 .loop2 .buffer) (so .0 .long ∙ h) (a .pad && eqb m (a .area .channels)) refl in
-    let two = subst⁻¹ (λ (x : List ℕ). RowDone (a .layout) (d .layout) (a .area) (d .area) (a .pad) (a .elements .now) (d .count) before g room w (l .loop .n) m (l2 .loop2 .r) (end-is t) (i .loop2-test .taken) (l2 .loop2 .buffer) x) is one in (
+    let is : _≡_ {A = List ℕ} (f .row2 .last .1 .1 .1 .0) (rowWritten (rowBlock (a .layout) (a .b) (l .loop .n) m (l2 .loop2 .r)) (a .pad && eqb m (a .b .channels)) (a .elements .now) (l2 .loop2 .buffer)) =
+    f .row2 .ensures ∙ ap (λ (b : ColumnBlock). rowWritten b (a .pad && eqb m (a .b .channels)) (a .elements .now) (l2 .loop2 .buffer)) (f .before .before .row .ensures) in
+    let one = row-done (a .layout) (d .layout) (a .b) (d .inside) (a .pad) (a .elements .now) (d .count) before g room w (l .loop .n) m (l2 .loop2 .r) (end-is t) (i .loop2-test .taken)
+    (λ pt. l .loop .inv .1 pt (t .before .loop-test .taken)) (l2 .loop2 .buffer) (so .0 .long ∙ h) (a .pad && eqb m (a .b .channels)) refl in
+    let two = subst⁻¹ (λ (x : List ℕ). RowDone (a .layout) (d .layout) (a .b) (d .inside) (a .pad) (a .elements .now) (d .count) before g room w (l .loop .n) m (l2 .loop2 .r) (end-is t) (i .loop2-test .taken) (l2 .loop2 .buffer) x) is one in (
       toward-trans 0 g (so .0) (two .near),
-      rows-more (Reached (a .layout) (a .area) (a .pad) g (l2 .loop2 .buffer)) (Reached (a .layout) (a .area) (a .pad) g (f .row2 .last .1 .1 .1 .0))
-          (λ x k r. reached-keep (a .layout) (a .area) (a .pad) g (two .near) x k r) (l .loop .n) m (l2 .loop2 .r) (so .1) (two .reached),
+      rows-more (Reached (a .layout) (a .b) (a .pad) g (l2 .loop2 .buffer)) (Reached (a .layout) (a .b) (a .pad) g (f .row2 .last .1 .1 .1 .0))
+          (λ x k r. reached-keep (a .layout) (a .b) (a .pad) g (two .near) x k r) (l .loop .n) m (l2 .loop2 .r) (so .1) (two .reached),
     )
 
 element-bytes-requires : tie.Need-element-bytes-requires Inv-loop2 μ-loop2 Inv-loop μ-loop
@@ -100,7 +100,7 @@ element-bytes-requires c κs = search needs
 loop-holds : tie.Need-loop-holds Inv-loop2 μ-loop2 Inv-loop μ-loop
 loop-holds c = let s = c .before .before in
     let a = s .args in
-    (omega arith, λ t h. omega arith, toward-refl 0 (goal s) (a .buffer .now), before-none (Reached (a .layout) (a .area) (a .pad) (goal s) (a .buffer .now)) (a .area .rows))
+    (omega arith, λ t h. omega arith, toward-refl 0 (goal s) (a .buffer .now), before-none (Reached (a .layout) (a .b) (a .pad) (goal s) (a .buffer .now)) (a .b .rows))
 
 atom-end-requires : tie.Need-atom-end-requires Inv-loop2 μ-loop2 Inv-loop μ-loop
 atom-end-requires c κs = let b = c .before .before in
@@ -109,19 +109,19 @@ atom-end-requires c κs = let b = c .before .before in
       subst⁻¹ (λ (e : ℕ). 1 ≤ e) (b .element-bytes .ensures) (elementBytes-pos p),
       subst⁻¹ (λ (e : ℕ). e ≤ 2) (b .element-bytes .ensures) (elementBytes-le p),
       c .loop-test .taken,
-      omega (arith, adm s .area .channels .fit, adm s .layout .channels-le),
+      omega (arith, adm s .inside .channels .fit, adm s .layout .channels-le),
     )
 
 loop2-holds : tie.Need-loop2-holds Inv-loop2 μ-loop2 Inv-loop μ-loop
 loop2-holds c = let l = c .before .before in
     let a = l .before .before .before .args in
-    (omega arith, λ before g h w. (toward-refl 0 g (l .loop .buffer), rows-none (Reached (a .layout) (a .area) (a .pad) g (l .loop .buffer)) (l .loop .n) (c .atom-end .result)))
+    (omega arith, λ before g h w. (toward-refl 0 g (l .loop .buffer), rows-none (Reached (a .layout) (a .b) (a .pad) g (l .loop .buffer)) (l .loop .n) (c .atom-end .result)))
 
 row-requires : tie.Need-row-requires Inv-loop2 μ-loop2 Inv-loop μ-loop
 row-requires c κs = let t = c .before .before in
     let s = t .before .before .before .before .before in
     let e = end-is t in
-    (admit-front (s .args .layout) (s .args .area) (length (s .args .elements .now)) (length (s .args .buffer .now)) (s .pre .0), (e .some, e .le, c .loop2-test .taken))
+    (admit-front (s .args .layout) (s .args .b) (length (s .args .elements .now)) (length (s .args .buffer .now)) (s .pre .0), (e .some, e .le, c .loop2-test .taken))
 
 row-requires-2 : tie.Need-row-requires-2 Inv-loop2 μ-loop2 Inv-loop μ-loop
 row-requires-2 c κs = search needs
@@ -151,9 +151,9 @@ loop-again c = let l2 = c .before in
       e .le,
       λ pt h. begins s pt (t .atom-end .result) (e .next h),
       toward-trans 0 (goal s) (l .loop .inv .2) (i .0),
-      before-more (Reached (a .layout) (a .area) (a .pad) (goal s) (l .loop .buffer)) (Reached (a .layout) (a .area) (a .pad) (goal s) (l2 .loop2 .buffer))
-          (λ x k r. reached-keep (a .layout) (a .area) (a .pad) (goal s) (i .0) x k r)
-          (a .area .rows) (l .loop .n) (t .atom-end .result) (l2 .loop2 .r) (c .loop2-test .left) (l .loop .inv .3) (i .1),
+      before-more (Reached (a .layout) (a .b) (a .pad) (goal s) (l .loop .buffer)) (Reached (a .layout) (a .b) (a .pad) (goal s) (l2 .loop2 .buffer))
+          (λ x k r. reached-keep (a .layout) (a .b) (a .pad) (goal s) (i .0) x k r)
+          (a .b .rows) (l .loop .n) (t .atom-end .result) (l2 .loop2 .r) (c .loop2-test .left) (l .loop .inv .3) (i .1),
     )
 
 same-length : tie.Need-same-length Inv-loop2 μ-loop2 Inv-loop μ-loop

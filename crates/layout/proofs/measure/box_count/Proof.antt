@@ -14,7 +14,7 @@ cast-result-2 : tie.Need-cast-result-2
 cast-result-2 c = search needs
 
 mul-result : tie.Need-mul-result
-mul-result c = let a = c .before .before .args .area in
+mul-result c = let a = c .before .before .args .b in
     let p = c .before .before .pre in
     omega (arith, mul-le-mul (p .0) (p .1))
 
@@ -22,7 +22,7 @@ cast-result-3 : tie.Need-cast-result-3
 cast-result-3 c = search needs
 
 mul-result-2 : tie.Need-mul-result-2
-mul-result-2 c = let a = c .before .before .before .args .area in
+mul-result-2 c = let a = c .before .before .before .args .b in
     let p = c .before .before .before .pre in
     omega (arith, mul-le-mul (mul-le-mul (p .0) (p .1)) (p .2))
 

@@ -2,7 +2,7 @@
 use Prim.Native.Nat.{ℕ, _+_}
 use native.Mathlib.Omega.{arith}
 use mathlib.Core.Path.{ap}
-use Rattle.layout.proofs.Taken.{taken}
+use Rattle.layout.proofs.Valid.{valid}
 use Rattle.layout.proofs.Extents.{extent-lt}
 use borrow.Author.Needs.{needs}
 use Rattle.layout.proofs.measure.end.Statement.{statement}
@@ -18,7 +18,7 @@ add-result : tie.Need-add-result
 add-result c = let d = c .before in
     let q = d .before .args .layout in
     let g = d .struct-known .given in
-    omega (arith, c .extent-bytes .ensures, extent-lt q (taken q (d .before .pre)) (g .1 .1 .1 .1 .0 .fits) (g .1 .1 .1 .1 .1 .0 .fits), g .1 .1 .1 .1 .1 .1 .0 .fits)
+    omega (arith, c .extent-bytes .ensures, extent-lt q (valid q (d .before .pre)) (g .1 .1 .1 .1 .0 .fits) (g .1 .1 .1 .1 .1 .0 .fits), g .1 .1 .1 .1 .1 .1 .0 .fits)
 
 returns : tie.Need-returns
 returns c = ap (λ (n : ℕ). c .before .before .args .layout .start + n) (c .extent-bytes .ensures)

@@ -3,7 +3,7 @@ use Prim.Native.Nat.{ℕ, _+_, _-_, _*_, _^_, _<_}
 use native.Mathlib.Omega.{arith}
 use mathlib.Core.Path.{ap, subst⁻¹}
 use Rattle.layout.specs.Geometry.{cubeExtent}
-use Rattle.layout.proofs.Taken.{taken}
+use Rattle.layout.proofs.Valid.{valid}
 use Rattle.layout.proofs.Extents.{surfaces-pos, extent-lt}
 use borrow.Author.Needs.{needs}
 use Rattle.layout.proofs.measure.extent_bytes.Statement.{statement}
@@ -11,7 +11,7 @@ use Rattle.layout.proofs.measure.extent_bytes.Tie as tie
 
 -- the whole sum, at the entry and in terms of the surfaces counted
 extent-bound : (c : tie.Start) → c .args .layout .line < 2 ^ 32 → c .args .layout .surface < 2 ^ 32 → cubeExtent (c .args .layout) < 2 ^ 46
-extent-bound c = extent-lt (c .args .layout) (taken (c .args .layout) (c .pre))
+extent-bound c = extent-lt (c .args .layout) (valid (c .args .layout) (c .pre))
 
 parts : (c : tie.After-surface-count) → c .before .args .layout .line < 2 ^ 32 → c .before .args .layout .surface < 2 ^ 32
     → (c .surface-count .result - 1) * c .before .args .layout .surface + (c .before .args .layout .height - 1) * c .before .args .layout .line + 32 * c .before .args .layout .width < 2 ^ 46
@@ -30,7 +30,7 @@ cast-lines : tie.Need-cast-lines
 cast-lines c = search needs
 
 sub-lines : tie.Need-sub-lines
-sub-lines c = taken (c .before .before .args .layout) (c .before .before .pre) .height-pos
+sub-lines c = valid (c .before .before .args .layout) (c .before .before .pre) .height-pos
 
 cast-lines-2 : tie.Need-cast-lines-2
 cast-lines-2 c = search needs
@@ -41,7 +41,7 @@ mul-lines c = let d = c .before in omega (arith, extent-bound (d .before .before
 
 sub-result : tie.Need-sub-result
 sub-result c = let d = c .before .before in
-    subst⁻¹ (λ (n : ℕ). 0 < n) (d .surface-count .ensures) (surfaces-pos (d .before .args .layout) (taken (d .before .args .layout) (d .before .pre)))
+    subst⁻¹ (λ (n : ℕ). 0 < n) (d .surface-count .ensures) (surfaces-pos (d .before .args .layout) (valid (d .before .args .layout) (d .before .pre)))
 
 cast-result : tie.Need-cast-result
 cast-result c = search needs

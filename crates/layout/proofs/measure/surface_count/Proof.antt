@@ -5,7 +5,7 @@ use native.Mathlib.Omega.{arith}
 use mathlib.Core.Path.{ap, subst⁻¹}
 use Rattle.elements.proofs.ByteLaws.{elementBytes-le}
 use Rattle.layout.specs.Geometry.{surfaces}
-use Rattle.layout.proofs.Taken.{taken}
+use Rattle.layout.proofs.Valid.{valid}
 use borrow.Author.Needs.{needs}
 use Rattle.layout.proofs.measure.surface_count.Statement.{statement}
 use Rattle.layout.proofs.measure.surface_count.Tie as tie
@@ -16,7 +16,7 @@ element-bytes-requires c κs = search needs
 bytes-le : (c : tie.After-struct-known) → c .before .before .args .layout .channels * c .before .element-bytes .result ≤ 16384
 bytes-le c =
     let q = c .before .before .args .layout in
-    mul-le-mul {n₂ = 8192} {m₂ = 2} (taken q (c .before .before .pre) .channels-le)
+    mul-le-mul {n₂ = 8192} {m₂ = 2} (valid q (c .before .before .pre) .channels-le)
     (subst⁻¹ (λ (n : ℕ). n ≤ 2) (c .before .element-bytes .ensures) (elementBytes-le (q .precision)))
 
 mul-bytes : tie.Need-mul-bytes

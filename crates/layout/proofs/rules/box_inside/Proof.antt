@@ -10,14 +10,14 @@ span-inside-requires : tie.Need-span-inside-requires
 span-inside-requires c κs = search needs
 
 returns : tie.Need-returns
-returns c = let a = c .before .before .args in box-channels (a .layout) (a .area) (sym (c .before .span-inside .ensures) ∙ not-true _ (c .if1 .taken))
+returns c = let a = c .before .before .args in box-channels (a .layout) (a .b) (sym (c .before .span-inside .ensures) ∙ not-true _ (c .if1 .taken))
 
 span-inside-requires-2 : tie.Need-span-inside-requires-2
 span-inside-requires-2 c κs = search needs
 
 returns-2 : tie.Need-returns-2
 returns-2 c = let a = c .before .before .before .before .args in
-    box-rows (a .layout) (a .area)
+    box-rows (a .layout) (a .b)
     (sym (c .before .before .before .span-inside .ensures) ∙ not-false _ (c .before .before .if1 .left))
     (sym (c .before .span-inside2 .ensures) ∙ not-true _ (c .if2 .taken))
 
@@ -27,7 +27,7 @@ span-inside-requires-3 c κs = search needs
 returns-3 : tie.Need-returns-3
 returns-3 c = let a = c .before .before .before .before .before .args in
     c .span-inside3 .ensures
-    ∙ box-columns (a .layout) (a .area)
+    ∙ box-columns (a .layout) (a .b)
     (sym (c .before .before .before .before .span-inside .ensures) ∙ not-false _ (c .before .before .before .if1 .left))
     (sym (c .before .before .span-inside2 .ensures) ∙ not-false _ (c .before .if2 .left))
 

@@ -5,7 +5,7 @@ use borrow.Author.Needs.{needs}
 use Rattle.lut.specs.Tables.{linearX}
 use Rattle.lut.specs.StepsRows.{slopeRow, powerRow, linearRows, rowsX}
 use Rattle.lut.proofs.NumberLaws.{back32, between-abs, ud-abs}
-use Rattle.lut.proofs.AnswerLaws.{modeTaken-linear, modeTaken-exponential}
+use Rattle.lut.proofs.AnswerLaws.{modeValid-linear, modeValid-exponential}
 use Rattle.lut.proofs.rows.rows_x.Statement.{statement}
 use Rattle.lut.proofs.rows.rows_x.Tie as tie
 
@@ -16,7 +16,7 @@ linear-rows-requires : tie.Need-linear-rows-requires
 linear-rows-requires c κs =
     let g = c .before .mode .given in
     let s = c .before .before .before .before .before .before .before in
-    let b = between-abs 5 25 (g .0 .0) (modeTaken-linear (s .args .s .mode) (g .0 .0) (g .1) ∙ s .pre) in
+    let b = between-abs 5 25 (g .0 .0) (modeValid-linear (s .args .s .mode) (g .0 .0) (g .1) ∙ s .pre) in
     rw (back32 (g .0 .0) (c .known-told .given .0 .1)) (ud-abs (g .0 .0) (b .0) (omega (arith, b .1)), omega arith)
 
 enum-known-mode-2 : tie.Need-enum-known-mode-2
@@ -30,7 +30,7 @@ power-row-requires c κs =
     let k = c .before .before in
     let g = k .before .mode2 .given in
     let s = k .before .before .before .before .before .before .before in
-    let b = between-abs 31 31 (g .0 .0) (modeTaken-exponential (s .args .s .mode) (g .0 .0) (g .1) ∙ s .pre) in
+    let b = between-abs 31 31 (g .0 .0) (modeValid-exponential (s .args .s .mode) (g .0 .0) (g .1) ∙ s .pre) in
     rw (back32 (g .0 .0) (k .known-told2 .given .0 .1)) (ud-abs (g .0 .0) (omega (arith, b .0)) (b .1))
 
 slope-row-requires-2 : tie.Need-slope-row-requires-2

@@ -10,7 +10,7 @@ use Rattle.lut.specs.StepsRows.{linearRows, rowsX, rowsOf}
 use Rattle.lut.specs.StepsPoints.{Stored}
 use Rattle.lut.specs.StepsLoop.{boundsOf, wideOf, SettingsFit, pairOf, pairAnswer, Tally, countAt}
 use Rattle.lut.proofs.NumberLaws.{between-abs, ud-abs}
-use Rattle.lut.proofs.PlaceLaws.{yTaken-parts, xTaken-mode, xTaken-below, xTaken-above}
+use Rattle.lut.proofs.SideLaws.{yValid-parts, xValid-mode, xValid-below, xValid-above}
 use Rattle.lut.proofs.PointLaws.{stored-kept}
 use Rattle.lut.proofs.PlanLaws.{pairNumber, pair-is, ready-by, planned-ready, planned-answer}
 use Rattle.lut.proofs.LoopLaws.{nothing-seen, map-ranged, count-ranged}
@@ -21,7 +21,7 @@ use Rattle.lut.proofs.samples.answer_all.Tie as tie
 fill-requires : tie.Need-fill-requires
 fill-requires c κs =
     let s = c .before .before in
-    let t = yTaken-parts (s .args .s .y) (s .pre .0 .3) in
+    let t = yValid-parts (s .args .s .y) (s .pre .0 .3) in
     ((refl, refl, omega arith, s .pre .0 .1), (t .2, t .3))
 
 fill-requires-2 : tie.Need-fill-requires-2
@@ -30,17 +30,17 @@ fill-requires-2 c κs =
     let s = f .before .before .before in
     let x = s .args .s .x in (
       (f .fill .ensures .firsts-long, f .fill .ensures .rises-long, omega arith, s .pre .0 .0),
-      (xTaken-below x (s .pre .0 .2), xTaken-above x (s .pre .0 .2)),
+      (xValid-below x (s .pre .0 .2), xValid-above x (s .pre .0 .2)),
     )
 
 rows-x-requires : tie.Need-rows-x-requires
-rows-x-requires c κs = let s = c .before .before .before .before .before .before in xTaken-mode (s .args .s .x) (s .pre .0 .2)
+rows-x-requires c κs = let s = c .before .before .before .before .before .before in xValid-mode (s .args .s .x) (s .pre .0 .2)
 
 linear-rows-requires : tie.Need-linear-rows-requires
 linear-rows-requires c κs =
     let s = c .before .before .before .before .before .before .before in
     let y = s .args .s .y in
-    let b = between-abs 7 25 (y .select) (yTaken-parts y (s .pre .0 .3) .0) in
+    let b = between-abs 7 25 (y .select) (yValid-parts y (s .pre .0 .3) .0) in
     (ud-abs (y .select) (b .0) (omega (arith, b .1)), omega arith)
 
 rows-of-requires : tie.Need-rows-of-requires
@@ -49,7 +49,7 @@ rows-of-requires c κs = search needs
 bounds-of-requires : tie.Need-bounds-of-requires
 bounds-of-requires c κs =
     let s = c .before .before .before .before .before .before .before .before .before .before in
-    xTaken-mode (s .args .s .x) (s .pre .0 .2)
+    xValid-mode (s .args .s .x) (s .pre .0 .2)
 
 wide-of-requires : tie.Need-wide-of-requires
 wide-of-requires c κs = search needs

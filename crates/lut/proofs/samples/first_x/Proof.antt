@@ -11,7 +11,7 @@ use Rattle.integers.proofs.UpDown.{up}
 use Rattle.integers.proofs.Casts.{cast-fits, cast-value}
 use Rattle.lut.specs.StepsLoop.{firstX}
 use Rattle.lut.proofs.NumberLaws.{back32, power-le, between-abs}
-use Rattle.lut.proofs.AnswerLaws.{modeTaken-exponential}
+use Rattle.lut.proofs.AnswerLaws.{modeValid-exponential}
 use Rattle.lut.proofs.RuleLaws.{sum-fits, sum-value}
 use Rattle.lut.proofs.samples.first_x.Statement.{statement}
 use Rattle.lut.proofs.samples.first_x.Tie as tie
@@ -27,7 +27,7 @@ up-le c =
     let m = c .before .before in
     let g = m .mode2 .given in
     let s = m .before .before .before in
-    omega (arith, up-is c, between-abs 31 31 (g .0 .0) (modeTaken-exponential (s .args .s .mode) (g .0 .0) (g .1) ∙ s .pre) .0)
+    omega (arith, up-is c, between-abs 31 31 (g .0 .0) (modeValid-exponential (s .args .s .mode) (g .0 .0) (g .1) ∙ s .pre) .0)
 
 few : (c : tie.After-power) → c .power .result ≤ 8589934592
 few c = omega (arith, c .power .ensures, power-le (c .before .above-zero .result) (up-le (c .before)))

@@ -17,8 +17,8 @@ answer-code-requires c κs = search needs
 cast-t6 : tie.Need-cast-t6
 cast-t6 c = search needs
 
-answer-place-requires : tie.Need-answer-place-requires
-answer-place-requires c κs = search needs
+fault-index-requires : tie.Need-fault-index-requires
+fault-index-requires c κs = search needs
 
 returns : tie.Need-returns
 unfolding rowWords
@@ -26,7 +26,7 @@ returns c = sym (ap rowWords (c .enum-told .given .1))
 
 returns-2 : tie.Need-returns-2
 unfolding rowWords
-returns-2 c = rw (c .before .before .before .given .given .1, c .before .answer-code .ensures, c .answer-place .ensures)
+returns-2 c = rw (c .before .before .before .given .given .1, c .before .answer-code .ensures, c .fault-index .ensures)
 
 pub row-words-spec : {M : Type 1} → statement M
 row-words-spec =
@@ -36,6 +36,6 @@ row-words-spec =
     enum-known-given
     answer-code-requires
     cast-t6
-    answer-place-requires
+    fault-index-requires
     returns
     returns-2)

@@ -1,7 +1,7 @@
 -- `script::answers::frame` meets its contract: the extent, or its refusal. Assumes nothing.
 use mathlib.Core.Path.{sym, _∙_}
 use Rattle.script.specs.Steps.{desk}
-use Rattle.script.proofs.AnswerLaws.{frame-refused, frame-taken}
+use Rattle.script.proofs.AnswerLaws.{frame-refused, frame-valid}
 use borrow.Author.Needs.{needs}
 use Rattle.script.proofs.answers.frame.Statement.{statement}
 use Rattle.script.proofs.answers.frame.Tie as tie
@@ -29,7 +29,7 @@ returns c = let e = c .before .before .before .before in
 returns-2 : tie.Need-returns-2
 returns-2 c = let e = c .before .before .before .before in
     let a = e .before .args in
-    rw (c .empty .ensures) (frame-taken (desk (a .framed) (a .table)) (a .layout) (sym (e .extent .ensures) ∙ c .before .before .value .given .1))
+    rw (c .empty .ensures) (frame-valid (desk (a .framed) (a .table)) (a .layout) (sym (e .extent .ensures) ∙ c .before .before .value .given .1))
 
 pub frame-spec : {M : Type 1} → statement M
 frame-spec =

@@ -1,13 +1,13 @@
 -- `weights::measure::element_count` meets its contract: its product is the definition's, at most 2 ^ 36. Assumes nothing.
 use native.Mathlib.Omega.{arith}
 use Rattle.weights.specs.Geometry.{elementCount}
-use Rattle.weights.proofs.Taken.{Taken, taken}
+use Rattle.weights.proofs.Valid.{Valid, valid}
 use Rattle.weights.proofs.BoundLaws.{channels-product-le, pixels-le, count-le}
 use Rattle.weights.proofs.measure.element_count.Statement.{statement}
 use Rattle.weights.proofs.measure.element_count.Tie as tie
 
-sizes : (c : tie.Start) → Taken (c .args .layout)
-sizes c = taken (c .args .layout) (c .pre)
+sizes : (c : tie.Start) → Valid (c .args .layout)
+sizes c = valid (c .args .layout) (c .pre)
 
 mul-result : tie.Need-mul-result
 mul-result c = omega (arith, channels-product-le (c .before .args .layout) (sizes (c .before)))

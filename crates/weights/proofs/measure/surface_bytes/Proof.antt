@@ -3,7 +3,7 @@ use Prim.Native.Nat.{ℕ, _+_, _*_, _/_}
 use native.Mathlib.Omega.{arith}
 use mathlib.Core.Path.{ap}
 use Rattle.weights.specs.Geometry.{surfaceBytes}
-use Rattle.weights.proofs.Taken.{taken}
+use Rattle.weights.proofs.Valid.{valid}
 use Rattle.weights.proofs.BoundLaws.{bytes-le}
 use borrow.Author.Needs.{needs}
 use Rattle.weights.proofs.measure.surface_bytes.Statement.{statement}
@@ -14,11 +14,11 @@ weight-bytes-requires c κs = search needs
 
 add-result : tie.Need-add-result
 add-result c = let s = c .before in
-    omega (arith, c .weight-bytes .ensures, bytes-le (s .args .layout) (taken (s .args .layout) (s .pre)))
+    omega (arith, c .weight-bytes .ensures, bytes-le (s .args .layout) (valid (s .args .layout) (s .pre)))
 
 mul-result : tie.Need-mul-result
 mul-result c = let s = c .before in
-    omega (arith, c .weight-bytes .ensures, bytes-le (s .args .layout) (taken (s .args .layout) (s .pre)))
+    omega (arith, c .weight-bytes .ensures, bytes-le (s .args .layout) (valid (s .args .layout) (s .pre)))
 
 returns : tie.Need-returns
 unfolding surfaceBytes

@@ -3,7 +3,7 @@ use Prim.Native.Nat.{ℕ, _*_}
 use native.Mathlib.Omega.{arith}
 use mathlib.Core.Path.{_≡_, ap₂}
 use Rattle.weights.specs.Geometry.{sizeOf, elementCount}
-use Rattle.weights.proofs.Taken.{taken}
+use Rattle.weights.proofs.Valid.{valid}
 use Rattle.weights.proofs.BoundLaws.{bytes-le}
 use borrow.Author.Needs.{needs}
 use Rattle.weights.proofs.measure.weight_bytes.Statement.{statement}
@@ -24,7 +24,7 @@ cast-result c = search needs
 
 mul-result : tie.Need-mul-result
 mul-result c = let s = c .before .before in
-    omega (arith, product c, bytes-le (s .args .layout) (taken (s .args .layout) (s .pre)))
+    omega (arith, product c, bytes-le (s .args .layout) (valid (s .args .layout) (s .pre)))
 
 returns : tie.Need-returns
 returns c = product c

@@ -5,15 +5,15 @@ use native.Mathlib.Omega.{arith}
 use mathlib.Core.Path.{_≡_, _∙_, subst}
 use Rattle.weights.specs.Geometry.{groupOf, groupKernels}
 use Rattle.weights.specs.Steps.{groupIn, NextRun}
-use Rattle.weights.proofs.Taken.{Taken, taken}
+use Rattle.weights.proofs.Valid.{Valid, valid}
 use Rattle.weights.proofs.NumberLaws.{groupSize-le}
 use Rattle.weights.proofs.RunLaws.{Small, run-small, kernels-of, next-whole, next-kernel, next-block, next-group}
 use borrow.Author.Needs.{needs}
 use Rattle.weights.proofs.walk.next.Statement.{statement}
 use Rattle.weights.proofs.walk.next.Tie as tie
 
-sizes : (c : tie.Start) → Taken (c .args .layout)
-sizes c = taken (c .args .layout) (c .pre .0)
+sizes : (c : tie.Start) → Valid (c .args .layout)
+sizes c = valid (c .args .layout) (c .pre .0)
 
 small : (c : tie.Start) → Small (c .args .layout) (sizes c) (c .args .run)
 small c = run-small (c .args .layout) (sizes c) (c .args .run) (c .pre .1 .here)

@@ -2,7 +2,7 @@
 use native.Mathlib.Omega.{arith}
 use mathlib.Core.Path.{_∙_}
 use Rattle.weights.specs.Geometry.{blockChannels}
-use Rattle.weights.proofs.Taken.{Taken, taken}
+use Rattle.weights.proofs.Valid.{Valid, valid}
 use Rattle.weights.proofs.BoundLaws.{pixels-le}
 use Rattle.weights.proofs.RunLaws.{kernels-of}
 use Rattle.weights.proofs.BlockLaws.{Numbers, Bounds, run-bounds, channel-columns, pixel-columns}
@@ -13,8 +13,8 @@ use Rattle.weights.proofs.walk.run_columns.Tie as tie
 abbrev entry : tie.After-least → tie.Start
 entry c = c .before .before .before .before .before .before
 
-sizes : (c : tie.Start) → Taken (c .args .layout)
-sizes c = taken (c .args .layout) (c .pre .0)
+sizes : (c : tie.Start) → Valid (c .args .layout)
+sizes c = valid (c .args .layout) (c .pre .0)
 
 numbers : (c : tie.After-least)
     → (let a = entry c .args in
