@@ -1,5 +1,6 @@
 -- The atom of a byte, found by division, is the one at which the paper's formula puts it, and only such bytes lie in atoms. A place in the
 -- cube is a number of three digits, surface, row and the rest, to the bases of the strides. Assumes nothing.
+--     line-pos, surface-pos                              a valid layout's strides
 --     atom-surface, atom-row, atom-column, atom-byte     the division's digits at the paper's formula
 --     atom-owner        the owner at the paper's formula
 --     atom-of           a byte in an atom is the formula's, at the division's digits
@@ -18,10 +19,10 @@ use Rattle.refusal.proofs.TestLaws.{and-left, and-right, and-both}
 use Rattle.layout.proofs.Valid.{Valid}
 
 module _ (q : CubeLayout) (ok : Valid q) where
-  line-pos : 0 < q .line
+  pub line-pos : 0 < q .line
   line-pos = omega (arith, ok .line-ge, ok .width-pos)
 
-  surface-pos : 0 < q .surface
+  pub surface-pos : 0 < q .surface
   surface-pos = omega (arith, ok .surface-ge, ok .width-pos)
 
   -- the digits below the surface stay below its stride, those below the row below the line's

@@ -6,20 +6,22 @@ use mathlib.Core.Bool.{true, false}
 use mathlib.Core.List.{[], _∷_, _++_, map}
 use lib.IntN.{pos, negsuc}
 use lib.ListN.{replicate}
-use Rattle.refusal.specs.declared.Refusal.the-variants.{Int8Range}
+use Rattle.refusal.specs.declared.Refusal.the-variants.{CubeStart, Int8Range}
 use Rattle.refusal.specs.declared.Answer.the-variants.{Refused}
 use Rattle.refusal.specs.Codes.{answerCode}
-use Rattle.refusal.specs.Checks.{requireAt, inOrder}
+use Rattle.refusal.specs.Checks.{requireAt, inOrder, result}
 use Rattle.refusal.specs.Sizes.{sizeValid}
 use Rattle.elements.specs.Bytes.{elementBytes, byteOf, wordAt, signed, elementAt}
 use Rattle.elements.specs.Values.{valueValid, valueCheck, valueChecksFrom, valueChecks}
 use Rattle.layout.specs.declared.CubeLayout.{CubeLayout}
 use Rattle.layout.specs.declared.ElementBox.{ElementBox}
+use Rattle.layout.specs.declared.ByteOwner.the-variants.{Element, Padding, Gap, Outside, Refused as NotGiven}
 use Rattle.layout.specs.Geometry.{layoutOf, elementCount, rawIndex, surfaces, elementPosition, cubeExtent}
 use Rattle.layout.specs.Boxes.{oneElement, boxCount, spanInside, boxInside, spanHas, boxHas, boxIndex, channelAt, rowAt, columnAt}
 use Rattle.layout.specs.Owners.{element, padding, outside, surfaceOf, rowOf, columnOf, byteInAtom, inAtom, atomOwner, owner}
 use Rattle.layout.specs.Rules.{sizesValid, wholeAtoms, stridesValid, layoutChecks, boxChecks, storageChecks, cubeChecks, admitChecks}
 use Rattle.layout.specs.Contents.{packedByte, editedByte}
+use Rattle.layout.specs.Whose.{inExtent, byteOwner, whoseAnswer}
 use Rattle.layout.specs.Calls.{packAnswer, unpackAnswer, writeBoxAnswer}
 
 abbrev frame : CubeLayout
@@ -114,4 +116,44 @@ computed =
       bounds-first = refl;
       box-count-first = refl;
       box-room-first = refl;
+    }
+
+-- whose a byte is, as it is answered
+pub record Answered : Type 0 where
+  -- the paper's element; padding past channel 40; behind a line's last atom, and behind the last line's in its surface; the last atom's last byte, and the next
+  pub own : whoseAnswer frame 449 ≡ Element 33 1 2 0
+  pub pad : whoseAnswer frame 264 ≡ Padding
+  pub between-lines : whoseAnswer frame 96 ≡ Gap
+  pub last-line : whoseAnswer frame 224 ≡ Gap
+  pub last : whoseAnswer frame 479 ≡ Padding
+  pub behind : whoseAnswer frame 480 ≡ Outside
+  pub far : whoseAnswer frame 18446744073709551615 ≡ Outside
+  -- between surfaces that are further apart than their lines
+  pub between-surfaces : whoseAnswer (layoutOf 3 2 40 0 128 512 0) 256 ≡ Gap
+  -- an int16 element's second byte, and the padding behind it
+  pub second : whoseAnswer (layoutOf 1 1 17 1 32 32 0) 33 ≡ Element 16 0 0 1
+  pub padded : whoseAnswer (layoutOf 1 1 17 1 32 32 0) 34 ≡ Padding
+  -- before the start, and at it
+  pub before : whoseAnswer (layoutOf 3 2 40 0 128 256 32) 31 ≡ Outside
+  pub first : whoseAnswer (layoutOf 3 2 40 0 128 256 32) 32 ≡ Element 0 0 0 0
+  -- a start of 16 is refused, wherever the byte lies
+  pub refused : whoseAnswer (layoutOf 3 2 40 0 128 256 16) 0 ≡ NotGiven CubeStart 0
+
+pub answered : Answered
+unfolding requireAt inOrder result sizeValid elementBytes surfaces cubeExtent surfaceOf rowOf columnOf byteInAtom inAtom atomOwner owner sizesValid wholeAtoms stridesValid layoutChecks inExtent byteOwner whoseAnswer
+answered =
+    record {
+      own = refl;
+      pad = refl;
+      between-lines = refl;
+      last-line = refl;
+      last = refl;
+      behind = refl;
+      far = refl;
+      between-surfaces = refl;
+      second = refl;
+      padded = refl;
+      before = refl;
+      first = refl;
+      refused = refl;
     }

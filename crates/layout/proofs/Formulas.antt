@@ -13,7 +13,7 @@ use lib.IntN.{ℤ, pos}
 use Rattle.elements.specs.Bytes.{byteOf}
 use Rattle.elements.proofs.ByteLaws.{elementBytes-cases}
 use Rattle.layout.specs.declared.CubeLayout.{CubeLayout}
-use Rattle.layout.specs.Geometry.{sizeOf, surfaces, rawIndex, elementPosition, atomPosition, cubeExtent}
+use Rattle.layout.specs.Geometry.{sizeOf, rawIndex, elementPosition, atomPosition, cubeExtent}
 use Rattle.layout.specs.Owners.{Owner, element, padding, outside, owner}
 use Rattle.layout.specs.Contents.{packed}
 use Rattle.layout.proofs.Valid.{Valid}

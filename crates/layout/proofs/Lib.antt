@@ -7,6 +7,7 @@
 --     BoxLaws         boxes, and the raw order over a box
 --     ContentLaws     each byte after packing and after writing a box
 --     Extents         places inside the extent, aligned, within 64 bits
+--     WhoseLaws       a byte's owner as the call finds it
 --     CallLaws        the orders of checks: a call on the whole cube, and what an accepted call tells
 --     Formulas        the paper's formula and its converse; packing by it
 --     RoundTrip       what is packed is read back
@@ -20,6 +21,7 @@ pub mod Views
 pub mod BoxLaws
 pub mod ContentLaws
 pub mod Extents
+pub mod WhoseLaws
 pub mod CallLaws
 pub mod Formulas
 pub mod RoundTrip

@@ -1,5 +1,6 @@
 // Feature cubes: their layout in memory, and the checks that a call makes (scope paper, "Cells and cubes").
 mod measure;
+mod owners;
 mod rules;
 
 ghost use mathlib.Core.Path.{_≡_};
@@ -7,6 +8,7 @@ ghost use Rattle.refusal.specs.Checks.{inOrder};
 ghost use Rattle.layout.specs.Boxes.{spanInside};
 ghost use Rattle.layout.specs.Rules.{layoutChecks, boxChecks, admitChecks};
 ghost use Rattle.layout.specs.Calls.{extentQuantity};
+ghost use Rattle.layout.specs.Whose.{whoseAnswer};
 use refusal::Answer;
 use refusal::Quantity;
 use refusal::Refusal;
@@ -30,6 +32,16 @@ pub struct ElementBox {
     pub channels: u32,
     pub rows: u32,
     pub columns: u32,
+}
+
+// Whose a byte is: a byte of an element (channel, row, column, byte); a padding byte, past the last channel of its atom; in a gap between atoms,
+// lines or surfaces; outside, before the start or past the extent; or refused with the index at fault.
+pub enum ByteOwner {
+    Element(u32, u32, u32, u32),
+    Padding,
+    Gap,
+    Outside,
+    Refused(Refusal, usize),
 }
 
 // `count` numbers from `first` on, at least one, all below `size`.
@@ -68,6 +80,16 @@ pub fn extent(layout: CubeLayout) -> Quantity
     match check(layout) {
         Answer::Refused(refusal, at) => Quantity::Refused(refusal, at),
         Answer::Accepted => Quantity::Is(measure::extent_bytes(layout)),
+    }
+}
+
+// Whose the byte at a position is. Checks 1 to 4.
+pub fn whose(layout: CubeLayout, position: u64) -> ByteOwner
+    ensures { λ r. ⌜ r ≡ whoseAnswer layout position ⌝ }
+{
+    match check(layout) {
+        Answer::Refused(refusal, at) => ByteOwner::Refused(refusal, at),
+        Answer::Accepted => owners::byte_owner(layout, position),
     }
 }
 
