@@ -8,6 +8,7 @@
 --     leaves-done, leaves-before          what a call leaves, by its answer
 --     leaves-ap, leaves-same              a part of what a call leaves
 --     result-given, result-refused        what a call gives, by its answer
+--     quantity-given                      a number was given: the call was accepted, and it is its number
 use Prim.Native.Nat.{ℕ}
 use native.Mathlib.Omega.{arith}
 use mathlib.Core.Path.{_≡_, refl, sym, _∙_}
@@ -16,7 +17,8 @@ use mathlib.Core.List.{List, [], _∷_, _++_}
 use Rattle.refusal.specs.declared.Refusal.{Refusal}
 use Rattle.refusal.specs.declared.Answer.{Answer}
 use Rattle.refusal.specs.declared.Answer.the-variants.{Accepted, Refused}
-use Rattle.refusal.specs.Checks.{requireAt, inOrder, leaves, result}
+use Rattle.refusal.specs.declared.Quantity.the-variants.{Is}
+use Rattle.refusal.specs.Checks.{requireAt, inOrder, leaves, result, quantity}
 
 pub requireAt-true : (i : ℕ) (r : Refusal) {b : Bool} → b ≡ true → requireAt i r b ≡ Accepted
 unfolding requireAt
@@ -121,3 +123,8 @@ result-given given refused v e = rw e
 pub result-refused : {A R : Type 0} (given : A → R) (refused : Refusal → ℕ → R) {a : Answer} {r : Refusal} {i : ℕ} (v : A) → a ≡ Refused r i → result given refused a v ≡ refused r i
 unfolding result
 result-refused given refused v e = rw e
+
+pub quantity-given : (a : Answer) (n m : ℕ) → quantity a n ≡ Is m → (a ≡ Accepted) × (n ≡ m)
+unfolding result
+quantity-given Accepted n m e = (refl, cc)
+quantity-given (Refused r i) n m e = absurd (let z : _≡_ {A = ℕ} 0 1 = cc in omega arith)

@@ -5,7 +5,7 @@ use mathlib.Core.List.{[], _∷_}
 use Rattle.refusal.specs.declared.Refusal.the-variants.{Size, Int8Range, Slot, Overlap}
 use Rattle.refusal.specs.declared.Answer.the-variants.{Accepted, Refused}
 use Rattle.refusal.specs.declared.Quantity.the-variants.{Is, Refused as NotGiven}
-use Rattle.refusal.specs.Codes.{answerCode, faultIndex}
+use Rattle.refusal.specs.Codes.{answerCode, faultIndex, quantityAnswer, quantityValue}
 use Rattle.refusal.specs.Checks.{require, requireAt, inOrder, leaves, quantity, result}
 use Rattle.refusal.specs.Sizes.{sizeValid}
 
@@ -22,6 +22,10 @@ pub record Computed : Type 0 where
   pub overlap : answerCode (Refused Overlap 0) ≡ 10
   pub none : faultIndex Accepted ≡ 0
   pub place : faultIndex (Refused Int8Range 5) ≡ 5
+  pub quantity-refused : answerCode (quantityAnswer (NotGiven Slot 0)) ≡ 8
+  pub quantity-given : answerCode (quantityAnswer (Is 5)) ≡ 0
+  pub value : quantityValue (Is 5) ≡ 5
+  pub no-value : quantityValue (NotGiven Slot 0) ≡ 0
   -- sizes are 1 to 8192
   pub zero : sizeValid 8192 0 ≡ false
   pub least : sizeValid 8192 1 ≡ true
@@ -41,6 +45,10 @@ computed =
       overlap = refl;
       none = refl;
       place = refl;
+      quantity-refused = refl;
+      quantity-given = refl;
+      value = refl;
+      no-value = refl;
       zero = refl;
       least = refl;
       most = refl;

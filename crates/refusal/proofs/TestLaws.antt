@@ -1,8 +1,10 @@
--- Both halves of a test that holds. Assumes nothing.
+-- The parts of a test that holds. Assumes nothing.
 --     and-left, and-right     one half
 --     and-both                the whole from its halves
+--     and-all                 every part of a row of tests
 use mathlib.Core.Path.{_≡_, refl}
 use mathlib.Core.Bool.{Bool, true, false, _&&_}
+use mathlib.Core.List.{List, [], _∷_}
 
 pub and-left : (a b : Bool) → (a && b) ≡ true → a ≡ true
 and-left true b e = refl
@@ -14,3 +16,20 @@ and-right false b e = cc
 
 pub and-both : {a b : Bool} → a ≡ true → b ≡ true → (a && b) ≡ true
 and-both p q = rw (p, q)
+
+-- ---- every part of a row of tests, a && b && c ..
+abbrev pub andRow : Bool → List Bool → Bool
+andRow a [] = a
+andRow a (b ∷ rest) = andRow (a && b) rest
+
+abbrev pub AllTrue : Bool → List Bool → Type 0
+AllTrue a [] = a ≡ true
+AllTrue a (b ∷ rest) = (a ≡ true) × AllTrue b rest
+
+and-split : (a b : Bool) (rest : List Bool) → AllTrue (a && b) rest → AllTrue a (b ∷ rest)
+and-split a b [] h = (and-left a b h, and-right a b h)
+and-split a b (c ∷ rest) h = (and-left a b (h .0), (and-right a b (h .0), h .1))
+
+pub and-all : (a : Bool) (rest : List Bool) → andRow a rest ≡ true → AllTrue a rest
+and-all a [] e = e
+and-all a (b ∷ rest) e = and-split a b rest (and-all (a && b) rest e)

@@ -1,9 +1,11 @@
--- The number of each refusal (scope paper, "Refusal numbers"). Assumes nothing.
+-- The number of each refusal, and number, index and value of each result (scope paper, "Refusal numbers"). Assumes nothing.
 use Prim.Native.Nat.{ℕ}
 use Rattle.refusal.specs.declared.Refusal.{Refusal}
 use Rattle.refusal.specs.declared.Refusal.the-variants.{Size, Precision, CubeStrides, CubeStart, BufferLength, ElementCount, Int8Range, Slot, Bounds, Overlap, TableLength, XSelect, XEnd, YSelect, YEnd, Shift, Counters, OutputLength, PixelFormat, PixelKind, XOffset, PixelStrides, PixelOutside, ScriptLine}
 use Rattle.refusal.specs.declared.Answer.{Answer}
 use Rattle.refusal.specs.declared.Answer.the-variants.{Accepted, Refused}
+use Rattle.refusal.specs.declared.Quantity.{Quantity}
+use Rattle.refusal.specs.declared.Quantity.the-variants.{Is, Refused as NotGiven}
 
 -- the paper's number
 abbrev pub codeOf : Refusal → ℕ
@@ -65,3 +67,13 @@ answerCode (Refused r at) = codeOf r
 abbrev pub faultIndex : Answer → ℕ
 faultIndex Accepted = 0
 faultIndex (Refused r at) = at
+
+-- a quantity's answer: accepted where there is one
+abbrev pub quantityAnswer : Quantity → Answer
+quantityAnswer (Is n) = Accepted
+quantityAnswer (NotGiven r at) = Refused r at
+
+-- its value, 0 where there is none
+abbrev pub quantityValue : Quantity → ℕ
+quantityValue (Is n) = n
+quantityValue (NotGiven r at) = 0
