@@ -8,14 +8,15 @@ use Prim.Native.Nat.{ℕ, _+_, _-_, _*_, _%_, _≤_, _<_}
 use native.Mathlib.Nat.{mul-le-mul-right, mod-lt, div-add-mod'}
 use native.Mathlib.Omega.{arith}
 use mathlib.Core.Path.{_≡_}
-use mathlib.Core.Bool.{true, _&&_}
+use mathlib.Core.Bool.{true}
+use mathlib.Core.List.{[], _∷_}
 use lib.Arith.{digits-div, digits-mod}
 use lib.Dec.{leb, ltb}
 use borrow.Author.Tests.{lt-ltb, le-leb, ltb-true, leb-true}
 use Rattle.layout.specs.declared.CubeLayout.{CubeLayout}
 use Rattle.layout.specs.Geometry.{surfaces, atomPosition}
 use Rattle.layout.specs.Owners.{surfaceOf, rowOf, columnOf, byteInAtom, inAtom, atomOwner, owner}
-use Rattle.refusal.proofs.TestLaws.{and-left, and-right, and-both}
+use Rattle.refusal.proofs.TestLaws.{and-both, and-all}
 use Rattle.layout.proofs.Valid.{Valid}
 
 module _ (q : CubeLayout) (ok : Valid q) where
@@ -85,17 +86,12 @@ module _ (q : CubeLayout) (ok : Valid q) where
   unfolding inAtom surfaceOf rowOf columnOf byteInAtom atomPosition
   atom-of p e =
       let n = p - q .start in
-      let t1 = leb (q .start) p in
-      let t2 = ltb (surfaceOf q p) (surfaces q) in
-      let t3 = ltb (rowOf q p) (q .height) in
-      let t4 = ltb (columnOf q p) (q .width) in
-      let e3 = and-left (t1 && t2 && t3) t4 e in
-      let e2 = and-left (t1 && t2) t3 e3 in
-      let from : q .start ≤ p = leb-true (q .start) p (and-left t1 t2 e2) in
+      let held = and-all (leb (q .start) p) (ltb (surfaceOf q p) (surfaces q) ∷ ltb (rowOf q p) (q .height) ∷ ltb (columnOf q p) (q .width) ∷ []) e in
+      let from : q .start ≤ p = leb-true (q .start) p (held .0) in
       record {
-        surface-lt = ltb-true (surfaceOf q p) (surfaces q) (and-right t1 t2 e2);
-        row-below = ltb-true (rowOf q p) (q .height) (and-right (t1 && t2) t3 e3);
-        column-below = ltb-true (columnOf q p) (q .width) (and-right (t1 && t2 && t3) t4 e);
+        surface-lt = ltb-true (surfaceOf q p) (surfaces q) (held .1 .0);
+        row-below = ltb-true (rowOf q p) (q .height) (held .1 .1 .0);
+        column-below = ltb-true (columnOf q p) (q .width) (held .1 .1 .1);
         byte-lt = mod-lt (n % q .surface % q .line) (omega arith);
         place = omega (arith, from, div-add-mod' n (q .surface), div-add-mod' (n % q .surface) (q .line), div-add-mod' (n % q .surface % q .line) 32);
       }

@@ -11,7 +11,8 @@ use Prim.Native.Nat.{ℕ, _+_, _-_, _*_, _/_, _%_, _≤_, _<_}
 use native.Mathlib.Nat.{mod-lt, div-add-mod', div-lt-iff-lt-mul}
 use native.Mathlib.Omega.{arith}
 use mathlib.Core.Path.{_≡_, refl, sym, ap, _∙_}
-use mathlib.Core.Bool.{true, _&&_}
+use mathlib.Core.Bool.{true}
+use mathlib.Core.List.{[], _∷_}
 use lib.Arith.{digits-div, digits-mod, digits-lt}
 use lib.Dec.{leb, ltb}
 use borrow.Author.Tests.{lt-ltb, le-leb, ltb-true, leb-true}
@@ -19,7 +20,7 @@ use Rattle.layout.specs.declared.CubeLayout.{CubeLayout}
 use Rattle.layout.specs.declared.ElementBox.{ElementBox}
 use Rattle.layout.specs.Geometry.{elementCount, rawIndex}
 use Rattle.layout.specs.Boxes.{wholeBox, boxCount, spanInside, boxInside, spanHas, boxHas, boxIndex, channelAt, rowAt, columnAt}
-use Rattle.refusal.proofs.TestLaws.{and-left, and-right, and-both}
+use Rattle.refusal.proofs.TestLaws.{and-left, and-right, and-both, and-all}
 use Rattle.layout.proofs.Valid.{Valid}
 pub use Rattle.layout.specs.Places.{InBox, InCube}
 
@@ -49,14 +50,11 @@ pub record BoxValid (q : CubeLayout) (b : ElementBox) : Type 0 where
 pub box-valid : (q : CubeLayout) (b : ElementBox) → boxInside q b ≡ true → BoxValid q b
 unfolding boxInside
 box-valid q b e =
-    let t1 = spanInside (b .channel) (b .channels) (q .channels) in
-    let t2 = spanInside (b .row) (b .rows) (q .height) in
-    let t3 = spanInside (b .column) (b .columns) (q .width) in
-    let e2 = and-left (t1 && t2) t3 e in
+    let held = and-all (spanInside (b .channel) (b .channels) (q .channels)) (spanInside (b .row) (b .rows) (q .height) ∷ spanInside (b .column) (b .columns) (q .width) ∷ []) e in
     record {
-      channels = span-inside (b .channel) (b .channels) (q .channels) (and-left t1 t2 e2);
-      rows = span-inside (b .row) (b .rows) (q .height) (and-right t1 t2 e2);
-      columns = span-inside (b .column) (b .columns) (q .width) (and-right (t1 && t2) t3 e);
+      channels = span-inside (b .channel) (b .channels) (q .channels) (held .0);
+      rows = span-inside (b .row) (b .rows) (q .height) (held .1 .0);
+      columns = span-inside (b .column) (b .columns) (q .width) (held .1 .1);
     }
 
 pub valid-box : (q : CubeLayout) (b : ElementBox) → BoxValid q b → boxInside q b ≡ true
@@ -91,20 +89,14 @@ has first count x p q = and-both (le-leb first x p) (lt-ltb x (first + count) q)
 pub boxHas-in : (b : ElementBox) (c h w : ℕ) → boxHas b c h w ≡ true → InBox b c h w
 unfolding boxHas
 boxHas-in b c h w e =
-    let t1 = spanHas (b .channel) (b .channels) c in
-    let t2 = spanHas (b .row) (b .rows) h in
-    let t3 = spanHas (b .column) (b .columns) w in
-    let e12 = and-left (t1 && t2) t3 e in
-    let e1 = and-left t1 t2 e12 in
-    let e2 = and-right t1 t2 e12 in
-    let e3 = and-right (t1 && t2) t3 e in
+    let held = and-all (spanHas (b .channel) (b .channels) c) (spanHas (b .row) (b .rows) h ∷ spanHas (b .column) (b .columns) w ∷ []) e in
     record {
-      channel-ge = has-ge (b .channel) (b .channels) c e1;
-      channel-lt = has-lt (b .channel) (b .channels) c e1;
-      row-ge = has-ge (b .row) (b .rows) h e2;
-      row-lt = has-lt (b .row) (b .rows) h e2;
-      column-ge = has-ge (b .column) (b .columns) w e3;
-      column-lt = has-lt (b .column) (b .columns) w e3;
+      channel-ge = has-ge (b .channel) (b .channels) c (held .0);
+      channel-lt = has-lt (b .channel) (b .channels) c (held .0);
+      row-ge = has-ge (b .row) (b .rows) h (held .1 .0);
+      row-lt = has-lt (b .row) (b .rows) h (held .1 .0);
+      column-ge = has-ge (b .column) (b .columns) w (held .1 .1);
+      column-lt = has-lt (b .column) (b .columns) w (held .1 .1);
     }
 
 pub in-boxHas : (b : ElementBox) (c h w : ℕ) → InBox b c h w → boxHas b c h w ≡ true

@@ -14,7 +14,7 @@ use mathlib.Core.Path.{_≡_, refl, sym, ap, _∙_}
 use mathlib.Core.Bool.{true, false}
 use mathlib.Core.List.{List, [], _∷_, _++_}
 use lib.ListN.{length}
-use lib.Dec.{leb, eqb}
+use lib.Dec.{leb}
 use lib.IntN.{ℤ}
 use borrow.Author.Tests.{leb-true, eqb-true, le-leb, lt-leb, eq-eqb, ne-eqb}
 use Rattle.refusal.specs.declared.Answer.{Answer}
@@ -22,7 +22,7 @@ use Rattle.refusal.specs.declared.Answer.the-variants.{Accepted, Refused}
 use Rattle.refusal.specs.declared.Refusal.{Refusal}
 use Rattle.refusal.specs.declared.Refusal.the-variants.{BufferLength, ElementCount, Bounds}
 use Rattle.refusal.specs.Checks.{require, inOrder}
-use Rattle.refusal.proofs.CheckLaws.{inOrder-nil, inOrder-held, inOrder-rest, inOrder-next, inOrder-stop, inOrder-front, inOrder-back, inOrder-passed, inOrder-refused, inOrder-same}
+use Rattle.refusal.proofs.CheckLaws.{Held, inOrder-all, requireAt-held, inOrder-nil, inOrder-next, inOrder-stop, inOrder-front, inOrder-back, inOrder-passed, inOrder-refused, inOrder-same}
 use Rattle.elements.specs.Values.{valueChecks}
 use Rattle.layout.specs.declared.CubeLayout.{CubeLayout}
 use Rattle.layout.specs.declared.ElementBox.{ElementBox}
@@ -40,17 +40,12 @@ pub record Admitted (q : CubeLayout) (box : ElementBox) (given len : ℕ) : Type
   pub count : given ≡ boxCount box
   pub room : q .start + cubeExtent q ≤ len
 
-module _ (q : CubeLayout) (count given len : ℕ) where
-  storage-count : inOrder (storageChecks q count given len) ≡ Accepted → given ≡ count
-  unfolding storageChecks
-  storage-count e = eqb-true given count (inOrder-held 0 ElementCount (eqb given count) (require BufferLength (leb (q .start + cubeExtent q) len) ∷ []) e)
-
-  storage-room : inOrder (storageChecks q count given len) ≡ Accepted → q .start + cubeExtent q ≤ len
-  unfolding storageChecks
-  storage-room e =
-      let t = leb (q .start + cubeExtent q) len in
-      leb-true (q .start + cubeExtent q) len
-      (inOrder-held 0 BufferLength t [] (inOrder-rest 0 ElementCount (eqb given count) (require BufferLength t ∷ []) e))
+-- checks 6 and 5 of an accepted call
+storage-accepted : (q : CubeLayout) (count given len : ℕ) → inOrder (storageChecks q count given len) ≡ Accepted → (given ≡ count) × (q .start + cubeExtent q ≤ len)
+unfolding storageChecks Held
+storage-accepted q count given len e =
+    let held = inOrder-all _ e in
+    (eqb-true given count (requireAt-held _ _ _ (held .0)), leb-true (q .start + cubeExtent q) len (requireAt-held _ _ _ (held .1 .0)))
 
 -- ---- checks 1 to 4, 9
 module _ (q : CubeLayout) (box : ElementBox) where
@@ -59,8 +54,8 @@ module _ (q : CubeLayout) (box : ElementBox) where
   box-layout e = inOrder-front (layoutChecks q) (require Bounds (boxInside q box) ∷ []) e
 
   pub box-inside : inOrder (boxChecks q box) ≡ Accepted → boxInside q box ≡ true
-  unfolding boxChecks
-  box-inside e = inOrder-held 0 Bounds (boxInside q box) [] (inOrder-back (layoutChecks q) (require Bounds (boxInside q box) ∷ []) e)
+  unfolding boxChecks Held
+  box-inside e = requireAt-held _ _ _ (inOrder-all _ (inOrder-back (layoutChecks q) _ e) .0)
 
   pub box-refused : {r : Refusal} {i : ℕ} → inOrder (layoutChecks q) ≡ Refused r i → Refused r i ≡ inOrder (boxChecks q box)
   unfolding boxChecks
@@ -85,12 +80,12 @@ pub admitted : (q : CubeLayout) (box : ElementBox) (given len : ℕ) → inOrder
 unfolding admitChecks
 admitted q box given len e =
     let front = inOrder-front (boxChecks q box) (storageChecks q (boxCount box) given len) e in
-    let back = inOrder-back (boxChecks q box) (storageChecks q (boxCount box) given len) e in
+    let storage = storage-accepted q (boxCount box) given len (inOrder-back (boxChecks q box) (storageChecks q (boxCount box) given len) e) in
     record {
       layout = box-layout-valid q box front;
       inside = boxChecks-valid q box front;
-      count = storage-count q (boxCount box) given len back;
-      room = storage-room q (boxCount box) given len back;
+      count = storage .0;
+      room = storage .1;
     }
 
 -- the box check of the whole cube holds once the layout is valid

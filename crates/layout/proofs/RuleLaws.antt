@@ -7,23 +7,21 @@
 use Prim.Native.Nat.{ℕ, _+_, _-_, _*_, _%_, _^_, _≤_, _<_}
 use native.Mathlib.Nat.{mul-le-mul}
 use native.Mathlib.Omega.{arith}
-use mathlib.Core.Path.{_≡_, sym, _∙_}
-use mathlib.Core.Bool.{true, false, _&&_}
-use mathlib.Core.List.{List, [], _∷_}
-use lib.Dec.{leb, ltb}
+use mathlib.Core.Path.{_≡_}
+use mathlib.Core.Bool.{true, false}
+use mathlib.Core.List.{[], _∷_}
+use lib.Dec.{leb}
 use borrow.Author.Tests.{lt-ltb, le-ltb, le-leb, lt-leb, eq-eqb, ne-eqb}
-use Rattle.refusal.specs.declared.Answer.{Answer}
 use Rattle.refusal.specs.declared.Answer.the-variants.{Accepted, Refused}
 use Rattle.refusal.specs.declared.Refusal.the-variants.{Size, Precision, CubeStrides, CubeStart}
-use Rattle.refusal.specs.Checks.{inOrder, require}
-use Rattle.refusal.proofs.CheckLaws.{inOrder-nil, inOrder-next, inOrder-stop}
+use Rattle.refusal.specs.Checks.{inOrder, requireAt}
 use Rattle.layout.specs.declared.CubeLayout.{CubeLayout}
 use Rattle.layout.specs.declared.ElementBox.{ElementBox}
 use Rattle.layout.specs.Boxes.{spanInside, boxInside}
 use Rattle.refusal.specs.Sizes.{sizeValid}
 use Rattle.refusal.proofs.SizeLaws.{size-pos, size-le}
 use Rattle.layout.specs.Rules.{sizesValid, wholeAtoms, stridesValid, layoutChecks}
-use Rattle.refusal.proofs.TestLaws.{and-left, and-right}
+use Rattle.refusal.proofs.TestLaws.{and-all}
 
 module _ (w h line surface : ℕ) where
   pub strides-line : (line % 32 ≡ 0 → ⊥) → false ≡ stridesValid w h line surface
@@ -70,51 +68,31 @@ module _ (q : CubeLayout) where
   pub sizes : sizesValid q ≡ true → Sizes
   unfolding sizesValid
   sizes e =
-      let w = sizeValid 8192 (q .width) in
-      let h = sizeValid 8192 (q .height) in
-      let c = sizeValid 8192 (q .channels) in
-      let wh = and-left (w && h) c e in
-      record {
-        width-le = size-le 8192 (q .width) (and-left w h wh);
-        height-pos = size-pos 8192 (q .height) (and-right w h wh);
-        height-le = size-le 8192 (q .height) (and-right w h wh);
-      }
-
-  r4 : List Answer
-  r4 = require CubeStart (wholeAtoms (q .start)) ∷ []
-
-  r3 : List Answer
-  r3 = require CubeStrides (stridesValid (q .width) (q .height) (q .line) (q .surface)) ∷ require CubeStart (wholeAtoms (q .start)) ∷ []
-
-  r2 : List Answer
-  r2 = require Precision (ltb (q .precision) 3) ∷ require CubeStrides (stridesValid (q .width) (q .height) (q .line) (q .surface)) ∷ require CubeStart (wholeAtoms (q .start)) ∷ []
+      let all = and-all (sizeValid 8192 (q .width)) (sizeValid 8192 (q .height) ∷ sizeValid 8192 (q .channels) ∷ []) e in
+      record { width-le = size-le 8192 (q .width) (all .0); height-pos = size-pos 8192 (q .height) (all .1 .0); height-le = size-le 8192 (q .height) (all .1 .0) }
 
   pub check-sizes : sizesValid q ≡ false → Refused Size 0 ≡ inOrder (layoutChecks q)
-  unfolding layoutChecks r2
-  check-sizes e = sym (inOrder-stop 0 Size r2 e)
+  unfolding layoutChecks inOrder requireAt
+  check-sizes e = rw e
 
   module _ (sz : sizesValid q ≡ true) where
     pub check-precision : 3 ≤ q .precision → Refused Precision 0 ≡ inOrder (layoutChecks q)
-    unfolding layoutChecks r2 r3
-    check-precision h = sym (inOrder-next 0 Size r2 sz ∙ inOrder-stop 0 Precision r3 (le-ltb (q .precision) 3 h))
+    unfolding layoutChecks inOrder requireAt
+    check-precision h = rw (sz, le-ltb (q .precision) 3 h)
 
     module _ (pr : q .precision < 3) where
       pub check-strides : stridesValid (q .width) (q .height) (q .line) (q .surface) ≡ false → Refused CubeStrides 0 ≡ inOrder (layoutChecks q)
-      unfolding layoutChecks r2 r3 r4
-      check-strides e = sym (inOrder-next 0 Size r2 sz ∙ inOrder-next 0 Precision r3 (lt-ltb (q .precision) 3 pr) ∙ inOrder-stop 0 CubeStrides r4 e)
+      unfolding layoutChecks inOrder requireAt
+      check-strides e = rw (sz, lt-ltb (q .precision) 3 pr, e)
 
       module _ (st : stridesValid (q .width) (q .height) (q .line) (q .surface) ≡ true) where
-        to-start : inOrder (layoutChecks q) ≡ inOrder r4
-        unfolding layoutChecks r2 r3 r4
-        to-start = inOrder-next 0 Size r2 sz ∙ inOrder-next 0 Precision r3 (lt-ltb (q .precision) 3 pr) ∙ inOrder-next 0 CubeStrides r4 st
-
         pub check-start : (q .start % 32 ≡ 0 → ⊥) → Refused CubeStart 0 ≡ inOrder (layoutChecks q)
-        unfolding r4 wholeAtoms
-        check-start f = sym (to-start ∙ inOrder-stop 0 CubeStart [] (ne-eqb (q .start % 32) 0 f))
+        unfolding layoutChecks inOrder requireAt wholeAtoms
+        check-start f = rw (sz, lt-ltb (q .precision) 3 pr, st, ne-eqb (q .start % 32) 0 f)
 
         pub check-valid : q .start % 32 ≡ 0 → Accepted ≡ inOrder (layoutChecks q)
-        unfolding r4 wholeAtoms
-        check-valid e = sym (to-start ∙ inOrder-next 0 CubeStart [] (eq-eqb (q .start % 32) 0 e) ∙ inOrder-nil)
+        unfolding layoutChecks inOrder requireAt wholeAtoms
+        check-valid e = rw (sz, lt-ltb (q .precision) 3 pr, st, eq-eqb (q .start % 32) 0 e)
 
 -- ---- boxes
 pub span-none : (first count size : ℕ) → count < 1 → false ≡ spanInside first count size
