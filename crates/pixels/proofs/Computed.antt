@@ -5,8 +5,8 @@ use mathlib.Core.Path.{_≡_, refl}
 use mathlib.Core.List.{[], _∷_, map}
 use Rattle.refusal.specs.declared.Refusal.the-variants.{PixelStrides, PixelOutside}
 use Rattle.refusal.specs.declared.Quantity.the-variants.{Is, Refused as NotGiven}
-use Rattle.refusal.specs.Codes.{answerCode}
-use Rattle.refusal.specs.Checks.{requireAt, inOrder, quantity, result}
+use Rattle.refusal.specs.Codes.{answerCode, quantityAnswer}
+use Rattle.refusal.specs.Checks.{requireAt, inOrder, result}
 use Rattle.refusal.specs.Sizes.{sizeValid}
 use Rattle.pixels.specs.declared.PixelSetting.{PixelSetting}
 use Rattle.pixels.specs.Formats.{formatTable, formatIn, formatOf}
@@ -29,6 +29,10 @@ image format width height channels precision offset start line =
 abbrev answer : PixelSetting → ℕ
 answer q = answerCode (settingAnswer q)
 
+-- the answer to a position asked of pixel (9, 9), which is outside
+abbrev outside : PixelSetting → ℕ
+outside q = answerCode (quantityAnswer (positionQuantity q 9 9))
+
 pub record Computed : Type 0 where
   -- T_R8 is valid; a line holds its pixels exactly
   pub accepted : map answer (image 0 3 2 1 0 31 64 64 ∷ image 0 33 1 1 0 31 0 64 ∷ image 8 4 2 4 2 0 0 32 ∷ image 16 1 1 4 0 7 0 32 ∷ []) ≡ 0 ∷ 0 ∷ 0 ∷ 0 ∷ []
@@ -41,12 +45,13 @@ pub record Computed : Type 0 where
   pub rows : map answer (image 8 4 2 4 1 0 0 32 ∷ image 5 4 2 1 1 0 0 32 ∷ image 5 4 2 1 2 0 0 32 ∷ []) ≡ 20 ∷ 0 ∷ 20 ∷ []
   -- pixel (2, 1) of T_A8B8G8R8 with X offset 3: 64 + 96 + 5 · 4; the offset is counted in pixels
   pub position : positionQuantity (image 12 3 2 4 0 3 64 96) 2 1 ≡ Is 180
-  -- a pixel outside, by its column and by its row; 22 and 23 at once
+  -- a pixel outside, by its column and by its row; a position, two at once: 19 and 1, 1 and 20, 20 and 21, 21 and 22, 22 and 23
   pub column : positionQuantity (image 12 3 2 4 0 3 64 96) 3 1 ≡ NotGiven PixelOutside 0
   pub row : positionQuantity (image 12 3 2 4 0 3 64 96) 2 2 ≡ NotGiven PixelOutside 0
   pub strides : positionQuantity (image 12 3 2 4 0 3 16 96) 3 1 ≡ NotGiven PixelStrides 0
+  pub position-double : map outside (image 17 0 2 1 0 31 64 64 ∷ image 0 0 2 2 0 31 64 64 ∷ image 0 3 2 2 0 32 64 64 ∷ image 0 3 2 1 0 32 16 64 ∷ image 0 3 2 1 0 31 16 64 ∷ []) ≡ 19 ∷ 1 ∷ 20 ∷ 21 ∷ 22 ∷ []
 
 pub computed : Computed
 unfolding requireAt inOrder result sizeValid formatTable formatIn formatOf kindValid stridesValid settingChecks settingAnswer pixelPosition positionQuantity
 computed =
-    record { accepted = refl; single = refl; double = refl; rows = refl; position = refl; column = refl; row = refl; strides = refl }
+    record { accepted = refl; single = refl; double = refl; rows = refl; position = refl; column = refl; row = refl; strides = refl; position-double = refl }

@@ -5,11 +5,13 @@
 --     SettingLaws     the checks as the code goes through them
 --     Valid           an accepted setting meets the paper's rules, and back
 --     PositionLaws    a pixel inside its line, its own bytes, its position within 64 bits
---     Places          the statements about settings and pixels' places
+--     PixelLaws       what a position given comes to
+--     Claims          the claims about settings and pixels, of the calls
 pub mod Computed
 pub mod FormatLaws
 pub mod RuleLaws
 pub mod SettingLaws
 pub mod Valid
 pub mod PositionLaws
+pub mod PixelLaws
 pub mod Claims

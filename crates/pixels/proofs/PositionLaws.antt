@@ -10,14 +10,14 @@ use mathlib.Core.Path.{_≡_, sym, ap, _∙_}
 use lib.Arith.{digits-div, digits-mod}
 use Rattle.pixels.specs.declared.PixelSetting.{PixelSetting}
 use Rattle.pixels.specs.Settings.{pixelBytes, pixelPosition}
-use Rattle.pixels.proofs.Valid.{Valid}
+use Rattle.pixels.specs.Places.{ValidSetting}
 
 -- quotient and remainder from q * m + r
 digits-own : (a a′ : ℕ) {m r r′ : ℕ} → r < m → r′ < m → a * m + r ≡ a′ * m + r′ → (a ≡ a′) × (r ≡ r′)
 digits-own a a′ {m} h h′ e =
     (sym (digits-div a h) ∙ ap (λ (n : ℕ). n / m) e ∙ digits-div a′ h′, sym (digits-mod a h) ∙ ap (λ (n : ℕ). n % m) e ∙ digits-mod a′ h′)
 
-module _ (q : PixelSetting) (ok : Valid q) where
+module _ (q : PixelSetting) (ok : ValidSetting q) where
   -- from its line's start on, the byte after a pixel, and each byte of it
   pixel-end : (x : ℕ) → x < q .width → (x + q .offset) * pixelBytes q + pixelBytes q ≤ q .line
   pixel-end x h =
@@ -50,4 +50,4 @@ module _ (q : PixelSetting) (ok : Valid q) where
   pub position-lt : (x y : ℕ) → x < q .width → y < q .height → q .line < 2 ^ 32 → q .start < 2 ^ 32 → pixelPosition q x y < 2 ^ 46
   unfolding pixelPosition
   position-lt x y h k l s =
-      omega (arith, pixel-end x h, ok .high .le, mul-le-mul {n₁ = y} {m₁ = q .line} {n₂ = 8192} {m₂ = 2 ^ 32} (omega (arith, ok .high .le)) (omega arith))
+      omega (arith, pixel-end x h, ok .height-le, mul-le-mul {n₁ = y} {m₁ = q .line} {n₂ = 8192} {m₂ = 2 ^ 32} (omega (arith, ok .height-le)) (omega arith))

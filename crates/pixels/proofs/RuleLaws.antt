@@ -1,11 +1,11 @@
 -- The rules as the code goes through them, one test after another. Assumes nothing.
 --     kind-channels, kind-precision                  channels and precision
 --     strides-start, strides-line, strides-room      start and line
-use Prim.Native.Nat.{ℕ, _+_, _*_, _%_, _≤_, _<_}
+use Prim.Native.Nat.{ℕ, _+_, _*_, _%_}
 use mathlib.Core.Path.{_≡_}
 use mathlib.Core.Bool.{false}
 use lib.Dec.{leb, eqb}
-use borrow.Author.Tests.{le-leb, lt-leb, eq-eqb, ne-eqb}
+use borrow.Author.Tests.{eq-eqb, ne-eqb}
 use Rattle.pixels.specs.declared.PixelFormat.{PixelFormat}
 use Rattle.pixels.specs.declared.PixelSetting.{PixelSetting}
 use Rattle.pixels.specs.Formats.{formatOf}

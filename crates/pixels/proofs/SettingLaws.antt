@@ -1,72 +1,61 @@
 -- The checks as the code goes through them, one after another: 19, 1, 20, 21, 22 of a setting, and 23 of a pixel. Assumes nothing.
 --     check-format .. check-valid            a setting, up to the first check that fails
 --     position-refused .. position-is        a pixel of a refused setting, outside, and inside the image
+--     position-given                         what a position given tells
 use Prim.Native.Nat.{ℕ, _≤_, _<_}
 use mathlib.Core.Path.{_≡_, sym, _∙_}
 use mathlib.Core.Bool.{true, false}
 use mathlib.Core.List.{[], _∷_}
-use borrow.Author.Tests.{lt-ltb, le-ltb, le-leb, lt-leb}
+use lib.Dec.{ltb}
+use borrow.Author.Tests.{lt-ltb, le-ltb, le-leb, lt-leb, ltb-true}
 use Rattle.refusal.specs.declared.Answer.the-variants.{Accepted, Refused}
 use Rattle.refusal.specs.declared.Refusal.{Refusal}
 use Rattle.refusal.specs.declared.Refusal.the-variants.{Size, PixelFormat as FormatCode, PixelKind, XOffset, PixelStrides, PixelOutside}
 use Rattle.refusal.specs.declared.Quantity.the-variants.{Is, Refused as NotGiven}
-use Rattle.refusal.specs.Checks.{require, inOrder}
-use Rattle.refusal.proofs.CheckLaws.{inOrder-nil, inOrder-next, inOrder-stop, inOrder-passed, inOrder-refused, result-given, result-refused}
+use Rattle.refusal.specs.Checks.{inOrder, requireAt}
+use Rattle.refusal.proofs.CheckLaws.{Held, inOrder-all, requireAt-held, inOrder-nil, inOrder-next, inOrder-stop, inOrder-passed, inOrder-refused, inOrder-front, inOrder-back, result-given, result-refused, quantity-given}
+use Rattle.refusal.proofs.TestLaws.{and-all}
 use Rattle.pixels.specs.declared.PixelSetting.{PixelSetting}
 use Rattle.pixels.specs.Formats.{formatOf}
 use Rattle.refusal.specs.Sizes.{sizeValid}
+use Rattle.pixels.specs.Places.{InImage}
 use Rattle.pixels.specs.Settings.{kindValid, stridesValid, settingChecks, settingAnswer, pixelPosition, positionQuantity}
 
 -- ---- the checks, in their order
 
 module _ (q : PixelSetting) where
   pub check-format : 16 < q .format → Refused FormatCode 0 ≡ settingAnswer q
-  unfolding settingAnswer settingChecks
-  check-format h = sym (inOrder-stop 0 FormatCode _ (lt-leb (q .format) 16 h))
+  unfolding settingAnswer settingChecks inOrder requireAt
+  check-format h = rw (lt-leb (q .format) 16 h)
 
   module _ (known : q .format ≤ 16) where
     pub check-width : sizeValid 8192 (q .width) ≡ false → Refused Size 0 ≡ settingAnswer q
-    unfolding settingAnswer settingChecks
-    check-width e = sym (inOrder-next 0 FormatCode _ (le-leb (q .format) 16 known) ∙ inOrder-stop 0 Size _ (rw e))
+    unfolding settingAnswer settingChecks inOrder requireAt
+    check-width e = rw (le-leb (q .format) 16 known, e)
 
     module _ (wide : sizeValid 8192 (q .width) ≡ true) where
       pub check-height : sizeValid 8192 (q .height) ≡ false → Refused Size 0 ≡ settingAnswer q
-      unfolding settingAnswer settingChecks
-      check-height e = sym (inOrder-next 0 FormatCode _ (le-leb (q .format) 16 known) ∙ inOrder-stop 0 Size _ (rw (wide, e)))
+      unfolding settingAnswer settingChecks inOrder requireAt
+      check-height e = rw (le-leb (q .format) 16 known, wide, e)
 
       module _ (high : sizeValid 8192 (q .height) ≡ true) where
         pub check-kind : kindValid q ≡ false → Refused PixelKind 0 ≡ settingAnswer q
-        unfolding settingAnswer settingChecks
-        check-kind e =
-            sym
-            (inOrder-next 0 FormatCode _ (le-leb (q .format) 16 known)
-            ∙ inOrder-next 0 Size _ (rw (wide, high))
-            ∙ inOrder-stop 0 PixelKind _ e)
+        unfolding settingAnswer settingChecks inOrder requireAt
+        check-kind e = rw (le-leb (q .format) 16 known, wide, high, e)
 
         module _ (kind : kindValid q ≡ true) where
           pub check-offset : formatOf (q .format) .offsets < q .offset → Refused XOffset 0 ≡ settingAnswer q
-          unfolding settingAnswer settingChecks
-          check-offset h =
-              sym
-              (inOrder-next 0 FormatCode _ (le-leb (q .format) 16 known)
-              ∙ inOrder-next 0 Size _ (rw (wide, high))
-              ∙ inOrder-next 0 PixelKind _ kind
-              ∙ inOrder-stop 0 XOffset _ (lt-leb (q .offset) (formatOf (q .format) .offsets) h))
+          unfolding settingAnswer settingChecks inOrder requireAt
+          check-offset h = rw (le-leb (q .format) 16 known, wide, high, kind, lt-leb (q .offset) (formatOf (q .format) .offsets) h)
 
           module _ (shifted : q .offset ≤ formatOf (q .format) .offsets) where
-            to-strides : settingAnswer q ≡ inOrder (require PixelStrides (stridesValid q) ∷ [])
-            unfolding settingAnswer settingChecks
-            to-strides =
-                inOrder-next 0 FormatCode _ (le-leb (q .format) 16 known)
-                ∙ inOrder-next 0 Size _ (rw (wide, high))
-                ∙ inOrder-next 0 PixelKind _ kind
-                ∙ inOrder-next 0 XOffset _ (le-leb (q .offset) (formatOf (q .format) .offsets) shifted)
-
             pub check-strides : stridesValid q ≡ false → Refused PixelStrides 0 ≡ settingAnswer q
-            check-strides e = sym (to-strides ∙ inOrder-stop 0 PixelStrides [] e)
+            unfolding settingAnswer settingChecks inOrder requireAt
+            check-strides e = rw (le-leb (q .format) 16 known, wide, high, kind, le-leb (q .offset) (formatOf (q .format) .offsets) shifted, e)
 
             pub check-valid : stridesValid q ≡ true → Accepted ≡ settingAnswer q
-            check-valid e = sym (to-strides ∙ inOrder-next 0 PixelStrides [] e ∙ inOrder-nil)
+            unfolding settingAnswer settingChecks inOrder requireAt
+            check-valid e = rw (le-leb (q .format) 16 known, wide, high, kind, le-leb (q .offset) (formatOf (q .format) .offsets) shifted, e)
 
 -- ---- check 23, and the position
 
@@ -97,3 +86,15 @@ module _ (q : PixelSetting) (x y : ℕ) where
           (inOrder-passed (settingChecks q) _ ok
           ∙ inOrder-next 0 PixelOutside _ (rw (lt-ltb x (q .width) inside, lt-ltb y (q .height) h))
           ∙ inOrder-nil))
+
+  -- a position is given only of a pixel of an accepted image
+  pub position-given : (p : ℕ) → positionQuantity q x y ≡ Is p → (settingAnswer q ≡ Accepted) × InImage q x y × (p ≡ pixelPosition q x y)
+  unfolding positionQuantity settingAnswer Held
+  position-given p e =
+      let g = quantity-given _ (pixelPosition q x y) p e in
+      let held = inOrder-all _ (inOrder-back (settingChecks q) _ (g .0)) in
+      let inside = and-all (ltb x (q .width)) (ltb y (q .height) ∷ []) (requireAt-held _ _ _ (held .0)) in (
+        inOrder-front (settingChecks q) _ (g .0),
+        record { x-lt = ltb-true x (q .width) (inside .0); y-lt = ltb-true y (q .height) (inside .1) },
+        sym (g .1),
+      )
