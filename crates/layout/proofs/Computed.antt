@@ -3,12 +3,12 @@
 use Prim.Native.Nat.{ℕ}
 use mathlib.Core.Path.{_≡_, refl}
 use mathlib.Core.Bool.{true, false}
-use mathlib.Core.List.{[], _∷_, _++_, map}
+use mathlib.Core.List.{List, [], _∷_, _++_, map}
 use lib.IntN.{pos, negsuc}
-use lib.ListN.{replicate}
-use Rattle.refusal.specs.declared.Refusal.the-variants.{CubeStart, Int8Range}
+use lib.ListN.{replicate, take}
+use Rattle.refusal.specs.declared.Refusal.the-variants.{Size, Precision, CubeStrides, CubeStart, Int8Range}
 use Rattle.refusal.specs.declared.Answer.the-variants.{Refused}
-use Rattle.refusal.specs.Codes.{answerCode}
+use Rattle.refusal.specs.Codes.{answerCode, quantityAnswer}
 use Rattle.refusal.specs.Checks.{requireAt, inOrder, result}
 use Rattle.refusal.specs.Sizes.{sizeValid}
 use Rattle.elements.specs.Bytes.{elementBytes, byteOf, wordAt, signed, elementAt}
@@ -22,7 +22,7 @@ use Rattle.layout.specs.Owners.{element, padding, outside, surfaceOf, ro
 use Rattle.layout.specs.Rules.{sizesValid, wholeAtoms, stridesValid, layoutChecks, boxChecks, storageChecks, cubeChecks, admitChecks}
 use Rattle.layout.specs.Contents.{packedByte, editedByte}
 use Rattle.layout.specs.Whose.{inExtent, byteOwner, whoseAnswer}
-use Rattle.layout.specs.Calls.{packAnswer, unpackAnswer, writeBoxAnswer}
+use Rattle.layout.specs.Calls.{packAnswer, unpackAnswer, writeBoxAnswer, readBoxAnswer, extentQuantity, positionQuantity}
 
 abbrev frame : CubeLayout
 frame = layoutOf 3 2 40 0 128 256 0
@@ -37,6 +37,14 @@ pair = record { channel = 1; row = 1; column = 0; channels = 1; rows = 1; column
 
 abbrev answer : CubeLayout → ℕ
 answer q = answerCode (inOrder (layoutChecks q))
+
+-- two faults at once: 1 and 2, 2 and 3, 3 and 4; then a start that is refused, and the frame: each with the fault that follows in a call's order
+abbrev wrong : List CubeLayout
+wrong = layoutOf 0 2 40 3 128 256 0 ∷ layoutOf 3 2 40 3 0 256 0 ∷ layoutOf 3 2 40 0 0 256 16 ∷ layoutOf 3 2 40 0 128 256 16 ∷ frame ∷ []
+
+-- an element past the last channel
+abbrev past-channels : ElementBox
+past-channels = oneElement 40 0 0
 
 pub record Computed : Type 0 where
   pub position : elementPosition frame 33 1 2 ≡ 449
@@ -60,28 +68,33 @@ pub record Computed : Type 0 where
   pub strides : map answer (layoutOf 3 2 40 0 128 224 0 ∷ layoutOf 3 2 40 0 128 192 0 ∷ layoutOf 3 2 40 0 64 256 0 ∷ layoutOf 3 1 40 0 64 256 0 ∷ layoutOf 3 2 40 0 112 256 0 ∷ layoutOf 3 2 40 0 128 240 0 ∷ [])
       ≡ 0 ∷ 3 ∷ 3 ∷ 3 ∷ 3 ∷ 3 ∷ []
   pub others : map answer (layoutOf 3 2 40 0 128 256 16 ∷ layoutOf 3 2 40 3 128 256 0 ∷ layoutOf 3 2 8193 0 128 256 0 ∷ layoutOf 3 0 40 0 128 256 0 ∷ []) ≡ 4 ∷ 2 ∷ 1 ∷ 1 ∷ []
-  -- two at once: 1 and 2, 2 and 3, 3 and 4
-  pub double : map answer (layoutOf 0 2 40 3 128 256 0 ∷ layoutOf 3 2 40 3 0 256 0 ∷ layoutOf 3 2 40 0 0 256 16 ∷ []) ≡ 1 ∷ 2 ∷ 3 ∷ []
+  -- two at once, up to 3 and 4; for an element's position also 4 and 9
+  pub double : map answer wrong ≡ 1 ∷ 2 ∷ 3 ∷ 4 ∷ 0 ∷ []
+  pub extent-double : map (λ (q : CubeLayout). answerCode (quantityAnswer (extentQuantity q))) wrong ≡ 1 ∷ 2 ∷ 3 ∷ 4 ∷ 0 ∷ []
+  pub position-double : map (λ (q : CubeLayout). answerCode (quantityAnswer (positionQuantity q 40 0 0))) wrong ≡ 1 ∷ 2 ∷ 3 ∷ 4 ∷ 9 ∷ []
   -- 9: a box that ends with the cube is valid, one column past it is not, nor one of no rows
   pub inside : boxInside frame (record { channel = 39; row = 1; column = 1; channels = 1; rows = 1; columns = 2 }) ≡ true
   pub past : boxInside frame (record { channel = 39; row = 1; column = 1; channels = 1; rows = 1; columns = 3 }) ≡ false
   pub empty : boxInside frame (record { channel = 39; row = 1; column = 1; channels = 1; rows = 0; columns = 2 }) ≡ false
-  -- packing, two at once: 4 and 6, 6 and 5, 5 and 7; 5 and 7 alone; a buffer of the extent is valid
-  pub packing : map (λ (n : ℕ). answerCode (packAnswer (single 0 16) [] n)) (31 ∷ []) ≡ 4 ∷ []
-  pub count-first : answerCode (packAnswer (single 0 0) [] 31) ≡ 6
+  -- packing, two at once, also 4 and 6, 6 and 5, 5 and 7; 7 alone; a buffer of the extent is valid
+  pub pack-double : map (λ (q : CubeLayout). answerCode (packAnswer q [] 0)) wrong ≡ 1 ∷ 2 ∷ 3 ∷ 4 ∷ 6 ∷ []
   pub room-first : answerCode (packAnswer (single 0 0) (pos 200 ∷ []) 31) ≡ 5
   pub value : packAnswer (single 0 0) (pos 200 ∷ []) 32 ≡ Refused Int8Range 0
   pub exact : answerCode (packAnswer (single 0 0) (pos 100 ∷ []) 32) ≡ 0
   pub start-counts : answerCode (packAnswer (single 0 32) (pos 100 ∷ []) 32) ≡ 5
-  pub reading : answerCode (unpackAnswer (single 0 0) 0 31) ≡ 6
-  -- a box, two at once: 4 and 9, 9 and 6, 6 and 5, 5 and 7
-  pub start-first : answerCode (writeBoxAnswer (single 0 16) (oneElement 1 0 0) [] 31) ≡ 4
-  pub bounds-first : answerCode (writeBoxAnswer (single 0 0) (oneElement 1 0 0) [] 31) ≡ 9
-  pub box-count-first : answerCode (writeBoxAnswer (single 0 0) (oneElement 0 0 0) [] 31) ≡ 6
-  pub box-room-first : answerCode (writeBoxAnswer (single 0 0) (oneElement 0 0 0) (pos 200 ∷ []) 31) ≡ 5
+  -- unpacking, two at once, also 4 and 6, 6 and 5
+  pub unpack-double : map (λ (q : CubeLayout). answerCode (unpackAnswer q 0 0)) wrong ≡ 1 ∷ 2 ∷ 3 ∷ 4 ∷ 6 ∷ []
+  -- writing a box, two at once, also 4 and 9, 9 and 6; 6 and 5; 5 and 7
+  pub write-double : map (λ (q : CubeLayout). answerCode (writeBoxAnswer q past-channels [] 0)) wrong ≡ 1 ∷ 2 ∷ 3 ∷ 4 ∷ 9 ∷ []
+  pub write-count-first : answerCode (writeBoxAnswer (single 0 0) (oneElement 0 0 0) [] 31) ≡ 6
+  pub write-room-first : answerCode (writeBoxAnswer (single 0 0) (oneElement 0 0 0) (pos 200 ∷ []) 31) ≡ 5
+  -- reading a box the same, without 7
+  pub read-double : map (λ (q : CubeLayout). answerCode (readBoxAnswer q past-channels 0 0)) wrong ≡ 1 ∷ 2 ∷ 3 ∷ 4 ∷ 9 ∷ []
+  pub read-count-first : answerCode (readBoxAnswer (single 0 0) (oneElement 0 0 0) 0 31) ≡ 6
+  pub read-room : answerCode (readBoxAnswer (single 0 0) (oneElement 0 0 0) 1 31) ≡ 5
 
 pub computed : Computed
-unfolding requireAt inOrder sizeValid elementBytes byteOf wordAt signed elementAt valueValid valueCheck valueChecksFrom valueChecks elementCount rawIndex surfaces elementPosition cubeExtent boxCount spanInside boxInside spanHas boxHas boxIndex channelAt rowAt columnAt surfaceOf rowOf columnOf byteInAtom inAtom atomOwner owner sizesValid wholeAtoms stridesValid layoutChecks boxChecks storageChecks cubeChecks admitChecks packedByte editedByte packAnswer unpackAnswer writeBoxAnswer
+unfolding requireAt inOrder sizeValid elementBytes byteOf wordAt signed elementAt valueValid valueCheck valueChecksFrom valueChecks elementCount rawIndex surfaces elementPosition cubeExtent boxCount spanInside boxInside spanHas boxHas boxIndex channelAt rowAt columnAt surfaceOf rowOf columnOf byteInAtom inAtom atomOwner owner sizesValid wholeAtoms stridesValid layoutChecks boxChecks storageChecks cubeChecks admitChecks packedByte editedByte packAnswer unpackAnswer writeBoxAnswer readBoxAnswer result extentQuantity positionQuantity
 computed =
     record {
       position = refl;
@@ -102,20 +115,23 @@ computed =
       strides = refl;
       others = refl;
       double = refl;
+      extent-double = refl;
+      position-double = refl;
       inside = refl;
       past = refl;
       empty = refl;
-      packing = refl;
-      count-first = refl;
+      pack-double = refl;
       room-first = refl;
       value = refl;
       exact = refl;
       start-counts = refl;
-      reading = refl;
-      start-first = refl;
-      bounds-first = refl;
-      box-count-first = refl;
-      box-room-first = refl;
+      unpack-double = refl;
+      write-double = refl;
+      write-count-first = refl;
+      write-room-first = refl;
+      read-double = refl;
+      read-count-first = refl;
+      read-room = refl;
     }
 
 -- whose a byte is, as it is answered
@@ -136,8 +152,9 @@ pub record Answered : Type 0 where
   -- before the start, and at it
   pub before : whoseAnswer (layoutOf 3 2 40 0 128 256 32) 31 ≡ Outside
   pub first : whoseAnswer (layoutOf 3 2 40 0 128 256 32) 32 ≡ Element 0 0 0 0
-  -- a start of 16 is refused, wherever the byte lies
+  -- a start of 16 is refused, wherever the byte lies; two at once: 1 and 2, 2 and 3, 3 and 4
   pub refused : whoseAnswer (layoutOf 3 2 40 0 128 256 16) 0 ≡ NotGiven CubeStart 0
+  pub double : map (λ (q : CubeLayout). whoseAnswer q 0) (take 3 wrong) ≡ NotGiven Size 0 ∷ NotGiven Precision 0 ∷ NotGiven CubeStrides 0 ∷ []
 
 pub answered : Answered
 unfolding requireAt inOrder result sizeValid elementBytes surfaces cubeExtent surfaceOf rowOf columnOf byteInAtom inAtom atomOwner owner sizesValid wholeAtoms stridesValid layoutChecks inExtent byteOwner whoseAnswer
@@ -156,4 +173,5 @@ answered =
       before = refl;
       first = refl;
       refused = refl;
+      double = refl;
     }
