@@ -6,6 +6,7 @@ use lib.IntN.{ℤ, pos, negsuc, _-ℤ_, _*ℤ_}
 use lib.Signed.{shrZ}
 use Rattle.refusal.specs.declared.Refusal.the-variants.{Precision, Shift}
 use Rattle.refusal.specs.declared.Answer.{Answer}
+use Rattle.refusal.specs.declared.Answer.the-variants.{Accepted, Refused}
 use Rattle.refusal.specs.Checks.{require, inOrder, result}
 use Rattle.integers.specs.Saturate.{saturate}
 use Rattle.quantize.specs.declared.Quantized.{Quantized}
@@ -31,3 +32,13 @@ quantized d offset scale shift precision = saturate (lowest precision) (highest 
 -- the value where the call is accepted, else its refusal
 unfoldable pub quantizeAnswer : ℤ → ℤ → ℤ → ℕ → ℕ → Quantized
 quantizeAnswer d offset scale shift precision = result Value NotGiven (inOrder (quantizeChecks precision shift)) (quantized d offset scale shift precision)
+
+-- a conversion's answer: accepted where there is a value
+abbrev pub quantizedAnswer : Quantized → Answer
+quantizedAnswer (Value z) = Accepted
+quantizedAnswer (NotGiven r at) = Refused r at
+
+-- its value, 0 where there is none
+abbrev pub quantizedValue : Quantized → ℤ
+quantizedValue (Value z) = z
+quantizedValue (NotGiven r at) = pos 0
