@@ -21,12 +21,13 @@ use Rattle.layout.specs.Geometry.{sizeOf, elementPosition}
 use Rattle.layout.specs.Contents.{edited}
 use Rattle.layout.proofs.BoxLaws.{InBox, in-boxHas, boxHas-in, in-cube}
 use Rattle.layout.proofs.ContentLaws.{edited-kept, edited-length}
+use Rattle.regions.specs.declared.Rectangle.{Rectangle}
 use Rattle.regions.specs.declared.RegionTable.{RegionTable}
-use Rattle.regions.specs.Slots.{Slot, slotsOf}
+use Rattle.regions.specs.Slots.{slotsOf}
 use Rattle.regions.specs.Rules.{rectangleAt, cubeBox, editChecks}
 use Rattle.regions.specs.Calls.{editAnswer, editBuffer, readAnswer, readElements}
 use Rattle.regions.specs.Reads.{SameRead}
-use Rattle.regions.proofs.RuleLaws.{ValidBox}
+use Rattle.regions.proofs.RuleLaws.{ValidBounds}
 use Rattle.regions.proofs.CallLaws.{read-accepted, edit-accepted}
 use Rattle.regions.proofs.ReadLaws.{same-elements}
 use Rattle.regions.proofs.OverlapLaws.{InRectangle, in-has}
@@ -69,9 +70,8 @@ call-changes q s same (edit n b xs) p f =
 call-changes q s same (read n b xs) p f = refl
 
 -- ---- a read through another region
-in-rectangle : (q : CubeLayout) (slots : List Slot) (n : ℕ) (b : ElementBox) → ValidBox q slots n b → (c h w : ℕ) → InBox (cubeBox (rectangleAt slots n) b) c h w
-    → InRectangle (rectangleAt slots n) w h
-in-rectangle q slots n b v c h w i =
+in-rectangle : (q : CubeLayout) (g : Rectangle) (b : ElementBox) → ValidBounds q g b → (c h w : ℕ) → InBox (cubeBox g b) c h w → InRectangle g w h
+in-rectangle q g b v c h w i =
     record {
       column-ge = omega (arith, i .column-ge);
       column-lt = omega (arith, i .column-lt, v .columns .fit);
@@ -96,11 +96,11 @@ module _ (t : RegionTable) (a : Apart (t .layout) (slotsOf t)) (n m : ℕ) (d : 
       edit-names t n b xs buf (elementPosition q c h w + k)
       (λ c′ h′ w′ k′ i′ hk′ s.
       no-shared-byte q (mine .slot .layout) slots a m n (λ z. d (sym z)) (rectangleAt slots m) (rectangleAt slots n) (mine .slot .placed) (theirs .slot .placed) c h w k c′ h′ w′ k′
-      (in-cube q (cubeBox (rectangleAt slots m) b′) c h w (mine .box) i .channel-lt)
-      (in-has (rectangleAt slots m) w h (in-rectangle q slots m b′ mine c h w i))
+      (in-cube q (cubeBox (rectangleAt slots m) b′) c h w (mine .bounds .box) i .channel-lt)
+      (in-has (rectangleAt slots m) w h (in-rectangle q (rectangleAt slots m) b′ (mine .bounds) c h w i))
       hk
-      (in-cube q (cubeBox (rectangleAt slots n) b) c′ h′ w′ (theirs .box) i′ .channel-lt)
-      (in-has (rectangleAt slots n) w′ h′ (in-rectangle q slots n b theirs c′ h′ w′ i′))
+      (in-cube q (cubeBox (rectangleAt slots n) b) c′ h′ w′ (theirs .bounds .box) i′ .channel-lt)
+      (in-has (rectangleAt slots n) w′ h′ (in-rectangle q (rectangleAt slots n) b (theirs .bounds) c′ h′ w′ i′))
       hk′
       s)
   bytes-kept r (Refused x j) e c h w k i hk = ap (λ (l : List ℕ). getD l (elementPosition (t .layout) c h w + k) 0) (edit-refused t n b xs buf e)

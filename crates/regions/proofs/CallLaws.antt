@@ -2,10 +2,10 @@
 -- Assumes nothing.
 --     box-passes, after-9                     the checks of the cube's box pass, and the same follow
 --     read-accepted, edit-accepted            what an accepted read or edit tells
---     edit-answered, edit-left                an edit past check 9
---     read-answered, read-left                a read past it
+--     edit-refused, edit-found                an edit refused by 1 to 4, 8, 9, and past them
+--     read-refused, read-found                a read
 --     place-kept, place-left                  a placing refused, and accepted
---     position-is                             a position given
+--     position-refused, position-found        a position refused, and given
 use Prim.Native.Nat.{ℕ, _+_}
 use mathlib.Core.Path.{_≡_, sym, ap, _∙_}
 use mathlib.Core.List.{List, _++_, append-assoc}
@@ -14,8 +14,9 @@ use lib.IntN.{ℤ}
 use Rattle.refusal.specs.declared.Answer.{Answer}
 use Rattle.refusal.specs.declared.Answer.the-variants.{Accepted, Refused}
 use Rattle.refusal.specs.declared.Refusal.{Refusal}
+use Rattle.refusal.specs.declared.Quantity.the-variants.{Refused as NotGiven}
 use Rattle.refusal.specs.Checks.{inOrder}
-use Rattle.refusal.proofs.CheckLaws.{inOrder-front, inOrder-back, inOrder-passed, leaves-done, leaves-before, result-given}
+use Rattle.refusal.proofs.CheckLaws.{inOrder-front, inOrder-back, inOrder-passed, inOrder-refused, leaves-done, leaves-before, result-given, result-refused}
 use Rattle.elements.specs.Values.{valueChecks}
 use Rattle.layout.specs.declared.CubeLayout.{CubeLayout}
 use Rattle.layout.specs.declared.ElementBox.{ElementBox}
@@ -29,7 +30,10 @@ use Rattle.regions.specs.declared.RegionTable.{RegionTable}
 use Rattle.regions.specs.Slots.{Slot, slotsOf}
 use Rattle.regions.specs.Rules.{rectangleAt, cubeBox, regionBoxChecks, readChecks, editChecks}
 use Rattle.regions.specs.Calls.{placedRegion, placeAnswer, placeTable, editAnswer, editBuffer, readAnswer, readElements, regionPosition}
+use Rattle.regions.specs.declared.rules.FoundBox.the-variants.{At, Refused as NotFound}
+use Rattle.regions.specs.Steps.{foundBox}
 use Rattle.regions.proofs.RuleLaws.{ValidBox, box-accepted}
+use Rattle.regions.proofs.StepLaws.{found-refused, found-at}
 
 -- an accepted read: its box is valid, and the cube's box is admitted
 pub record ValidRead (q : CubeLayout) (slots : List Slot) (n : ℕ) (b : ElementBox) (given len : ℕ) : Type 0 where
@@ -45,7 +49,7 @@ module _ (q : CubeLayout) (slots : List Slot) (n : ℕ) (b : ElementBox) where
   box-passes : inOrder (regionBoxChecks q slots n b) ≡ Accepted → inOrder (boxChecks q (cubeBox (rectangleAt slots n) b)) ≡ Accepted
   box-passes ok =
       let v = box-accepted q slots n b ok in
-      sym (layout.box-accepted q (cubeBox (rectangleAt slots n) b) (v .slot .checked) (valid-box q (cubeBox (rectangleAt slots n) b) (v .box)))
+      sym (layout.box-accepted q (cubeBox (rectangleAt slots n) b) (v .slot .checked) (valid-box q (cubeBox (rectangleAt slots n) b) (v .bounds .box)))
 
   after-9 : (rest : List Answer) → inOrder (regionBoxChecks q slots n b) ≡ Accepted
       → inOrder (boxChecks q (cubeBox (rectangleAt slots n) b) ++ rest) ≡ inOrder (regionBoxChecks q slots n b ++ rest)
@@ -65,24 +69,40 @@ module _ (q : CubeLayout) (slots : List Slot) (n : ℕ) (b : ElementBox) where
       let storage = storageChecks q (boxCount b) (length xs) len in
       record { reads = read-accepted (length xs) len (inOrder-passed _ storage ok ∙ inOrder-front storage _ rest); values = inOrder-back storage _ rest }
 
--- ---- edit and read
-module _ (t : RegionTable) (n : ℕ) (b : ElementBox) {box : ElementBox} (moved : box ≡ cubeBox (rectangleAt (slotsOf t) n) b) (ok : inOrder (regionBoxChecks (t .layout) (slotsOf t) n b) ≡ Accepted) where
-  module _ (xs : List ℤ) where
-    pub edit-answered : (len : ℕ) → writeBoxAnswer (t .layout) box xs len ≡ editAnswer t n b xs len
-    unfolding writeBoxAnswer admitChecks editAnswer editChecks boxCount
-    edit-answered len = rw moved (ap inOrder (append-assoc (boxChecks (t .layout) (cubeBox (rectangleAt (slotsOf t) n) b)) _ _) ∙ after-9 (t .layout) (slotsOf t) n b _ ok)
+-- ---- edit and read: refused before the box is found, and past it
+module _ (t : RegionTable) (n : ℕ) (b : ElementBox) where
+  module _ (xs : List ℤ) (before : List ℕ) where
+    pub edit-refused : {r : Refusal} {i : ℕ} → foundBox t n b ≡ NotFound r i
+        → (Refused r i ≡ editAnswer t n b xs (length before)) × (before ≡ editBuffer t n b xs before)
+    unfolding editAnswer editChecks editBuffer
+    edit-refused e =
+        let denied = inOrder-refused (regionBoxChecks (t .layout) (slotsOf t) n b) _ (found-refused t n b e) in
+        (sym denied, sym (leaves-before _ before denied))
 
-    pub edit-left : (before : List ℕ) → writeBoxBuffer (t .layout) box xs before ≡ editBuffer t n b xs before
-    unfolding writeBoxBuffer editBuffer
-    edit-left before = rw (edit-answered (length before), moved)
+    pub edit-found : {box : ElementBox} → foundBox t n b ≡ At box
+        → (writeBoxAnswer (t .layout) box xs (length before) ≡ editAnswer t n b xs (length before)) × (writeBoxBuffer (t .layout) box xs before ≡ editBuffer t n b xs before)
+    unfolding writeBoxAnswer writeBoxBuffer admitChecks editAnswer editChecks editBuffer boxCount
+    edit-found e =
+        let f = found-at t n b e in
+        let same =
+        ap inOrder (append-assoc (boxChecks (t .layout) (cubeBox (rectangleAt (slotsOf t) n) b)) _ _) ∙ after-9 (t .layout) (slotsOf t) n b _ (f .0) in
+        (rw (f .1) same, rw (f .1, same))
 
-  pub read-answered : (given len : ℕ) → readBoxAnswer (t .layout) box given len ≡ readAnswer t n b given len
-  unfolding readBoxAnswer admitChecks readAnswer readChecks boxCount
-  read-answered given len = rw moved (after-9 (t .layout) (slotsOf t) n b _ ok)
+  module _ (buffer : List ℕ) (before : List ℤ) where
+    pub read-refused : {r : Refusal} {i : ℕ} → foundBox t n b ≡ NotFound r i
+        → (Refused r i ≡ readAnswer t n b (length before) (length buffer)) × (before ≡ readElements t n b buffer before)
+    unfolding readAnswer readChecks readElements
+    read-refused e =
+        let denied = inOrder-refused (regionBoxChecks (t .layout) (slotsOf t) n b) _ (found-refused t n b e) in
+        (sym denied, sym (leaves-before _ before denied))
 
-  pub read-left : (buffer : List ℕ) (before : List ℤ) → readBoxElements (t .layout) box buffer before ≡ readElements t n b buffer before
-  unfolding readBoxElements readElements
-  read-left buffer before = rw (read-answered (length before) (length buffer), moved)
+    pub read-found : {box : ElementBox} → foundBox t n b ≡ At box
+        → (readBoxAnswer (t .layout) box (length before) (length buffer) ≡ readAnswer t n b (length before) (length buffer)) × (readBoxElements (t .layout) box buffer before ≡ readElements t n b buffer before)
+    unfolding readBoxAnswer readBoxElements admitChecks readAnswer readChecks readElements boxCount
+    read-found e =
+        let f = found-at t n b e in
+        let same = after-9 (t .layout) (slotsOf t) n b _ (f .0) in
+        (rw (f .1) same, rw (f .1, same))
 
 -- ---- place
 module _ (t : RegionTable) (n : ℕ) (g : Rectangle) where
@@ -95,8 +115,13 @@ module _ (t : RegionTable) (n : ℕ) (g : Rectangle) where
   place-left e = sym (leaves-done _ t e)
 
 -- ---- position
-pub position-is : (t : RegionTable) (n c h w : ℕ) {box : ElementBox} → box ≡ cubeBox (rectangleAt (slotsOf t) n) (oneElement c h w)
-    → inOrder (regionBoxChecks (t .layout) (slotsOf t) n (oneElement c h w)) ≡ Accepted
-    → positionQuantity (t .layout) (box .channel) (box .row) (box .column) ≡ regionPosition t n c h w
-unfolding regionPosition positionQuantity
-position-is t n c h w moved ok = rw moved (result-given _ _ _ (box-passes (t .layout) (slotsOf t) n (oneElement c h w) ok) ∙ sym (result-given _ _ _ ok))
+module _ (t : RegionTable) (n c h w : ℕ) where
+  pub position-refused : {r : Refusal} {i : ℕ} → foundBox t n (oneElement c h w) ≡ NotFound r i → NotGiven r i ≡ regionPosition t n c h w
+  unfolding regionPosition
+  position-refused e = sym (result-refused _ _ _ (found-refused t n (oneElement c h w) e))
+
+  pub position-found : {box : ElementBox} → foundBox t n (oneElement c h w) ≡ At box → positionQuantity (t .layout) (box .channel) (box .row) (box .column) ≡ regionPosition t n c h w
+  unfolding regionPosition positionQuantity
+  position-found e =
+      let f = found-at t n (oneElement c h w) e in
+      rw (f .1) (result-given _ _ _ (box-passes (t .layout) (slotsOf t) n (oneElement c h w) (f .0)) ∙ sym (result-given _ _ _ (f .0)))

@@ -55,6 +55,6 @@ module _ (n : ℕ) (b : ElementBox) (t t′ : RegionTable) (buffer buffer′ : L
       let v = read-accepted (t .layout) (slotsOf t) n b (length xs) (length buffer) a in
       let moved : boxElements (t .layout) box buffer′ ≡ boxElements (t′ .layout) box′ buffer′ = rw (same .slot, same .layout) in
       leaves-done (boxElements (t .layout) box buffer) xs a
-      ∙ box-same (t .layout) box buffer buffer′ (same .bytes) (v .region .box)
+      ∙ box-same (t .layout) box buffer buffer′ (same .bytes) (v .region .bounds .box)
       ∙ moved
       ∙ sym (leaves-done (boxElements (t′ .layout) box′ buffer′) xs′ (sym same-answer ∙ a))

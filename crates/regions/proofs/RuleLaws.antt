@@ -2,20 +2,19 @@
 --     rectangle-columns, rectangle-rows    the spans of a rectangle in the cube
 --     Placing, place-accepted              what an accepted placing tells
 --     ValidSlot, slot-accepted             what accepted checks 1 to 4, 8 tell
+--     ValidBounds, bounds-accepted         what accepted check 9 of a box in a rectangle tells
 --     ValidBox, box-accepted               what accepted checks 1 to 4, 8, 9 tell
 use Prim.Native.Nat.{ℕ, _+_, _<_}
 use native.Mathlib.Omega.{arith}
 use mathlib.Core.Path.{_≡_, refl}
-use mathlib.Core.Bool.{Bool, true, false, _&&_}
+use mathlib.Core.Bool.{true, false}
 use mathlib.Core.List.{List, [], _∷_}
 use lib.Dec.{ltb}
 use borrow.Author.Tests.{ltb-true, not-true}
-use Rattle.refusal.specs.declared.Answer.{Answer}
-use Rattle.refusal.specs.declared.Answer.the-variants.{Accepted, Refused}
-use Rattle.refusal.specs.declared.Refusal.{Refusal}
-use Rattle.refusal.specs.Checks.{requireAt, inOrder}
+use Rattle.refusal.specs.declared.Answer.the-variants.{Accepted}
+use Rattle.refusal.specs.Checks.{inOrder}
 use Rattle.refusal.proofs.CheckLaws.{Held, inOrder-front, inOrder-back, inOrder-all, requireAt-held}
-use Rattle.refusal.proofs.TestLaws.{and-left, and-right}
+use Rattle.refusal.proofs.TestLaws.{and-left, and-right, and-all}
 use Rattle.layout.specs.declared.CubeLayout.{CubeLayout}
 use Rattle.layout.specs.declared.ElementBox.{ElementBox}
 use Rattle.layout.specs.Boxes.{spanInside}
@@ -24,7 +23,7 @@ use Rattle.layout.proofs.Valid.{Valid, valid}
 use Rattle.layout.proofs.BoxLaws.{Span, span-inside, BoxValid}
 use Rattle.regions.specs.declared.Rectangle.{Rectangle}
 use Rattle.regions.specs.Slots.{Slot, empty, filled, rectangleInside, overlaps}
-use Rattle.regions.specs.Rules.{slotAt, isFilled, rectangleOf, rectangleAt, placeChecks, boxInRectangle, cubeBox, slotChecks, regionBoxChecks}
+use Rattle.regions.specs.Rules.{slotAt, isFilled, rectangleOf, rectangleAt, placeChecks, boxInRectangle, cubeBox, slotChecks, boundsChecks, regionBoxChecks}
 
 -- ---- rectangles and boxes
 module _ (q : CubeLayout) (g : Rectangle) where
@@ -88,35 +87,44 @@ slot-accepted q slots n e =
       placed = filled-slot (slotAt slots n) (and-right (ltb n 16) _ there);
     }
 
--- ---- a box in a region: 9 after them
+-- ---- a box in a rectangle: 9
 
--- the slot is valid, its rectangle is in the cube, the box is in the rectangle, and so in the cube
+-- the rectangle is in the cube, the box is in the rectangle, and so in the cube
+pub record ValidBounds (q : CubeLayout) (g : Rectangle) (b : ElementBox) : Type 0 where
+  pub inside : rectangleInside q g ≡ true
+  pub rows : Span (b .row) (b .rows) (g .rows)
+  pub columns : Span (b .column) (b .columns) (g .columns)
+  pub box : BoxValid q (cubeBox g b)
+
+module _ (q : CubeLayout) (g : Rectangle) (b : ElementBox) where
+  pub bounds-valid : rectangleInside q g ≡ true → boxInRectangle q g b ≡ true → ValidBounds q g b
+  unfolding boxInRectangle
+  bounds-valid inside within =
+      let held = and-all (spanInside (b .channel) (b .channels) (q .channels)) (spanInside (b .row) (b .rows) (g .rows) ∷ spanInside (b .column) (b .columns) (g .columns) ∷ []) within in
+      let rows = span-inside (b .row) (b .rows) (g .rows) (held .1 .0) in
+      let columns = span-inside (b .column) (b .columns) (g .columns) (held .1 .1) in
+      record {
+        inside = inside;
+        rows = rows;
+        columns = columns;
+        box =
+            record {
+              channels = span-inside (b .channel) (b .channels) (q .channels) (held .0);
+              rows = inner (g .row) (g .rows) (q .height) (b .row) (b .rows) (rectangle-rows q g inside) rows;
+              columns = inner (g .column) (g .columns) (q .width) (b .column) (b .columns) (rectangle-columns q g inside) columns;
+            };
+      }
+
+  pub bounds-accepted : inOrder (boundsChecks q g b) ≡ Accepted → ValidBounds q g b
+  unfolding Held
+  bounds-accepted e = let held = inOrder-all _ e in bounds-valid (requireAt-held _ _ _ (held .0)) (requireAt-held _ _ _ (held .1 .0))
+
+-- ---- a box in a region: 9 after 1 to 4, 8
 pub record ValidBox (q : CubeLayout) (slots : List Slot) (n : ℕ) (b : ElementBox) : Type 0 where
   pub slot : ValidSlot q slots n
-  pub inside : rectangleInside q (rectangleAt slots n) ≡ true
-  pub rows : Span (b .row) (b .rows) (rectangleAt slots n .rows)
-  pub columns : Span (b .column) (b .columns) (rectangleAt slots n .columns)
-  pub box : BoxValid q (cubeBox (rectangleAt slots n) b)
+  pub bounds : ValidBounds q (rectangleAt slots n) b
 
 pub box-accepted : (q : CubeLayout) (slots : List Slot) (n : ℕ) (b : ElementBox) → inOrder (regionBoxChecks q slots n b) ≡ Accepted → ValidBox q slots n b
-unfolding regionBoxChecks boxInRectangle Held
+unfolding regionBoxChecks
 box-accepted q slots n b e =
-    let g = rectangleAt slots n in
-    let held = inOrder-all _ (inOrder-back (slotChecks q slots n) _ e) in
-    let inside = requireAt-held _ _ _ (held .0) in
-    let within = requireAt-held _ _ _ (held .1 .0) in
-    let first = and-left (spanInside (b .channel) (b .channels) (q .channels) && spanInside (b .row) (b .rows) (g .rows)) _ within in
-    let rows = span-inside (b .row) (b .rows) (g .rows) (and-right (spanInside (b .channel) (b .channels) (q .channels)) _ first) in
-    let columns = span-inside (b .column) (b .columns) (g .columns) (and-right (spanInside (b .channel) (b .channels) (q .channels) && spanInside (b .row) (b .rows) (g .rows)) _ within) in
-    record {
-      slot = slot-accepted q slots n (inOrder-front (slotChecks q slots n) _ e);
-      inside = inside;
-      rows = rows;
-      columns = columns;
-      box =
-          record {
-            channels = span-inside (b .channel) (b .channels) (q .channels) (and-left _ (spanInside (b .row) (b .rows) (g .rows)) first);
-            rows = inner (g .row) (g .rows) (q .height) (b .row) (b .rows) (rectangle-rows q g inside) rows;
-            columns = inner (g .column) (g .columns) (q .width) (b .column) (b .columns) (rectangle-columns q g inside) columns;
-          };
-    }
+    record { slot = slot-accepted q slots n (inOrder-front (slotChecks q slots n) _ e); bounds = bounds-accepted q (rectangleAt slots n) b (inOrder-back (slotChecks q slots n) _ e) }

@@ -1,10 +1,13 @@
--- The slots as the code reads them from the table's structs, and the region behind an accepted box. Assumes nothing.
+-- The slots as the code reads them from the table's structs, and the box of the cube as it finds it. Assumes nothing.
 --     length-mapped                         the length of an array of structs
 --     slotAt-region, slotAt-table           the slot of a number is what the table's struct stands for
 --     overlaps-table                        the overlap test of a table's structs
 --     number-past, filled-is, vacant-is     the tests of a slot, from its number and its flag
 --     rectangle-is                          the rectangle of a filled slot is the struct's
---     cubeBox-is, row-fits, column-fits     the cube's box of an accepted box
+--     row-fits, column-fits                 the corner of a box in a rectangle of a valid layout
+--     boxIn-region .. boxIn-at              a box in a rectangle, test after test
+--     foundBox-slot, foundBox-in            a box in a region, test after test
+--     found-refused, found-at               what it tells
 use Prim.Native.Nat.{ℕ, _+_, _≤_, _<_}
 use native.Mathlib.Omega.{arith}
 use mathlib.Core.Path.{_≡_, refl, sym, ap, _∙_}
@@ -13,16 +16,23 @@ use mathlib.Core.List.{List, map}
 use lib.ListN.{length, getD, length-map, List·getD-map}
 use lib.Dec.{ltb}
 use borrow.Author.Tests.{lt-ltb, le-ltb}
-use Rattle.refusal.specs.declared.Answer.the-variants.{Accepted}
-use Rattle.refusal.specs.Checks.{inOrder}
+use Rattle.refusal.specs.declared.Answer.{Answer}
+use Rattle.refusal.specs.declared.Answer.the-variants.{Accepted, Refused}
+use Rattle.refusal.specs.declared.Refusal.{Refusal}
+use Rattle.refusal.specs.declared.Refusal.the-variants.{Bounds}
+use Rattle.refusal.specs.Checks.{requireAt, inOrder, result}
+use Rattle.refusal.proofs.CheckLaws.{inOrder-passed, inOrder-refused, result-refused}
+use Rattle.layout.proofs.Valid.{Valid}
 use Rattle.layout.specs.declared.CubeLayout.{CubeLayout}
 use Rattle.layout.specs.declared.ElementBox.{ElementBox}
 use Rattle.regions.specs.declared.Rectangle.{Rectangle}
 use Rattle.regions.specs.declared.Region.{Region}
 use Rattle.regions.specs.declared.RegionTable.{RegionTable}
-use Rattle.regions.specs.Slots.{rectangle, Slot, empty, filled, slotOf, slotsOf, overlaps}
-use Rattle.regions.specs.Rules.{slotAt, isFilled, rectangleOf, rectangleAt, cubeBox, regionBoxChecks}
-use Rattle.regions.proofs.RuleLaws.{box-accepted}
+use Rattle.regions.specs.declared.rules.FoundBox.the-variants.{At, Refused as NotFound}
+use Rattle.regions.specs.Slots.{rectangle, Slot, empty, filled, slotOf, slotsOf, overlaps, rectangleInside}
+use Rattle.regions.specs.Rules.{slotAt, isFilled, rectangleOf, rectangleAt, boxInRectangle, cubeBox, slotChecks, regionBoxChecks}
+use Rattle.regions.specs.Steps.{boxIn, foundBox}
+use Rattle.regions.proofs.RuleLaws.{ValidBounds}
 
 -- a struct with no region placed
 abbrev noRegion : Region
@@ -71,19 +81,55 @@ rectangle-is g {s} there full = go (g .placed) (there ∙ full)
     go true e = cc
     go false e = absurd (let z : _≡_ {A = ℕ} 0 1 = cc in omega arith)
 
-module _ (q : CubeLayout) (slots : List Slot) (n : ℕ) (b : ElementBox) (g : Region) (there : slotOf g ≡ slotAt slots n) (ok : inOrder (regionBoxChecks q slots n b) ≡ Accepted) where
-  same-rectangle : rectangleAt slots n ≡ g .rectangle
-  same-rectangle = rectangle-is g there (box-accepted q slots n b ok .slot .placed)
+-- ---- a box in a rectangle of a valid layout
+module _ (q : CubeLayout) (ok : Valid q) (g : Rectangle) (b : ElementBox) (v : ValidBounds q g b) where
+  pub row-fits : g .row + b .row ≤ 8192
+  row-fits = omega (arith, v .box .rows .fit, ok .height-le)
 
-  pub cubeBox-is : cubeBox (g .rectangle) b ≡ cubeBox (rectangleAt slots n) b
-  cubeBox-is = ap (λ (r : Rectangle). cubeBox r b) (sym same-rectangle)
+  pub column-fits : g .column + b .column ≤ 8192
+  column-fits = omega (arith, v .box .columns .fit, ok .width-le)
 
-  pub row-fits : g .rectangle .row + b .row ≤ 8192
-  row-fits =
-      let v = box-accepted q slots n b ok in
-      omega (arith, ap (λ (r : Rectangle). r .row) same-rectangle, v .box .rows .fit, v .slot .layout .height-le)
+module _ (q : CubeLayout) (g : Rectangle) (b : ElementBox) where
+  pub boxIn-region : rectangleInside q g ≡ false → NotFound Bounds 0 ≡ boxIn q g b
+  unfolding boxIn result inOrder requireAt
+  boxIn-region e = rw e
 
-  pub column-fits : g .rectangle .column + b .column ≤ 8192
-  column-fits =
-      let v = box-accepted q slots n b ok in
-      omega (arith, ap (λ (r : Rectangle). r .column) same-rectangle, v .box .columns .fit, v .slot .layout .width-le)
+  module _ (inside : rectangleInside q g ≡ true) where
+    pub boxIn-box : boxInRectangle q g b ≡ false → NotFound Bounds 0 ≡ boxIn q g b
+    unfolding boxIn result inOrder requireAt
+    boxIn-box e = rw (inside, e)
+
+    pub boxIn-at : boxInRectangle q g b ≡ true → At (cubeBox g b) ≡ boxIn q g b
+    unfolding boxIn result inOrder requireAt
+    boxIn-at e = rw (inside, e)
+
+-- ---- a box in a region
+refused-of : (a : Answer) (v : ElementBox) {r : Refusal} {i : ℕ} → result At NotFound a v ≡ NotFound r i → a ≡ Refused r i
+unfolding result
+refused-of Accepted v e = absurd (let z : _≡_ {A = ℕ} 0 1 = cc in omega arith)
+refused-of (Refused r i) v e = cc
+
+at-of : (a : Answer) (v : ElementBox) {box : ElementBox} → result At NotFound a v ≡ At box → (a ≡ Accepted) × (box ≡ v)
+unfolding result
+at-of Accepted v e = (refl, cc)
+at-of (Refused r i) v e = absurd (let z : _≡_ {A = ℕ} 0 1 = cc in omega arith)
+
+module _ (t : RegionTable) (n : ℕ) (b : ElementBox) where
+  pub foundBox-slot : {r : Refusal} {i : ℕ} → inOrder (slotChecks (t .layout) (slotsOf t) n) ≡ Refused r i → NotFound r i ≡ foundBox t n b
+  unfolding foundBox regionBoxChecks
+  foundBox-slot e = sym (result-refused _ _ _ (inOrder-refused (slotChecks (t .layout) (slotsOf t) n) _ e))
+
+  pub foundBox-in : inOrder (slotChecks (t .layout) (slotsOf t) n) ≡ Accepted → {g : Rectangle} → rectangleAt (slotsOf t) n ≡ g → boxIn (t .layout) g b ≡ foundBox t n b
+  unfolding foundBox regionBoxChecks boxIn
+  foundBox-in ok e =
+      ap (λ (r : Rectangle). boxIn (t .layout) r b) (sym e)
+      ∙ ap (λ (a : Answer). result At NotFound a (cubeBox (rectangleAt (slotsOf t) n) b)) (sym (inOrder-passed (slotChecks (t .layout) (slotsOf t) n) _ ok))
+
+  -- what a box found, or not found, tells
+  pub found-refused : {r : Refusal} {i : ℕ} → foundBox t n b ≡ NotFound r i → inOrder (regionBoxChecks (t .layout) (slotsOf t) n b) ≡ Refused r i
+  unfolding foundBox
+  found-refused e = refused-of _ _ e
+
+  pub found-at : {box : ElementBox} → foundBox t n b ≡ At box → (inOrder (regionBoxChecks (t .layout) (slotsOf t) n b) ≡ Accepted) × (box ≡ cubeBox (rectangleAt (slotsOf t) n) b)
+  unfolding foundBox
+  found-at e = at-of _ _ e

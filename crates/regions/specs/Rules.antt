@@ -63,10 +63,13 @@ placeChecks q slots n g =
 unfoldable pub slotChecks : CubeLayout → List Slot → ℕ → List Answer
 slotChecks q slots n = layoutChecks q ++ (require SlotRefusal (ltb n 16 && isFilled (slotAt slots n)) ∷ [])
 
--- a box in the region of a slot: 1 to 4, 8, 9; its rectangle is in the cube, the box is in the rectangle
+-- a box in a rectangle: 9; the rectangle is in the cube, the box is in the rectangle
+abbrev pub boundsChecks : CubeLayout → Rectangle → ElementBox → List Answer
+boundsChecks q g b = require Bounds (rectangleInside q g) ∷ require Bounds (boxInRectangle q g b) ∷ []
+
+-- a box in the region of a slot: 1 to 4, 8, 9
 unfoldable pub regionBoxChecks : CubeLayout → List Slot → ℕ → ElementBox → List Answer
-regionBoxChecks q slots n b =
-    slotChecks q slots n ++ (require Bounds (rectangleInside q (rectangleAt slots n)) ∷ require Bounds (boxInRectangle q (rectangleAt slots n) b) ∷ [])
+regionBoxChecks q slots n b = slotChecks q slots n ++ boundsChecks q (rectangleAt slots n) b
 
 -- read: 1 to 4, 8, 9, 6, 5
 unfoldable pub readChecks : CubeLayout → List Slot → ℕ → ElementBox → ℕ → ℕ → List Answer

@@ -9,6 +9,7 @@ use layout::CubeLayout;
 use layout::ElementBox;
 use refusal::Answer;
 use refusal::Quantity;
+use rules::FoundBox;
 
 // A rectangle of a cube's positions: its first column and row, its columns and rows.
 pub struct Rectangle {
@@ -99,18 +100,18 @@ pub fn edit(
     ensures kept { λ r. ⌜ r .table ≡ table ⌝ }
     ensures left { λ r. ⌜ now (buffer .exit) ≡ editBuffer table slot b (now (elements .entry)) (now (buffer .entry)) ⌝ }
 {
-    let a = rules::check_box(table, slot, b);
-    let Answer::Accepted = a else {
-        return Outcome {
-            answer: a,
+    match rules::find_box(table, slot, b) {
+        FoundBox::Refused(refusal, at) => Outcome {
+            answer: Answer::Refused(refusal, at),
             table: table,
-        };
-    };
-    let target = rules::cube_box(table, slot, b);
-    let answer = cube::write_box(table.layout, target, elements, buffer);
-    Outcome {
-        answer: answer,
-        table: table,
+        },
+        FoundBox::At(target) => {
+            let answer = cube::write_box(table.layout, target, elements, buffer);
+            Outcome {
+                answer: answer,
+                table: table,
+            }
+        }
     }
 }
 
@@ -126,18 +127,18 @@ pub fn read(
     ensures kept { λ r. ⌜ r .table ≡ table ⌝ }
     ensures left { λ r. ⌜ now (elements .exit) ≡ readElements table slot b (now (buffer .entry)) (now (elements .entry)) ⌝ }
 {
-    let a = rules::check_box(table, slot, b);
-    let Answer::Accepted = a else {
-        return Outcome {
-            answer: a,
+    match rules::find_box(table, slot, b) {
+        FoundBox::Refused(refusal, at) => Outcome {
+            answer: Answer::Refused(refusal, at),
             table: table,
-        };
-    };
-    let source = rules::cube_box(table, slot, b);
-    let answer = cube::read_box(table.layout, source, buffer, elements);
-    Outcome {
-        answer: answer,
-        table: table,
+        },
+        FoundBox::At(source) => {
+            let answer = cube::read_box(table.layout, source, buffer, elements);
+            Outcome {
+                answer: answer,
+                table: table,
+            }
+        }
     }
 }
 
@@ -153,11 +154,8 @@ pub fn position(table: RegionTable, slot: u32, channel: u32, row: u32, column: u
         rows: 1,
         columns: 1,
     };
-    match rules::check_box(table, slot, one) {
-        Answer::Refused(refusal, at) => Quantity::Refused(refusal, at),
-        Answer::Accepted => {
-            let found = rules::cube_box(table, slot, one);
-            cube::position(table.layout, found.channel, found.row, found.column)
-        }
+    match rules::find_box(table, slot, one) {
+        FoundBox::Refused(refusal, at) => Quantity::Refused(refusal, at),
+        FoundBox::At(found) => cube::position(table.layout, found.channel, found.row, found.column),
     }
 }

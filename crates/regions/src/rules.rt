@@ -3,8 +3,10 @@ ghost use mathlib.Core.Path.{_≡_};
 ghost use Prim.Native.Nat.{_<_};
 ghost use Rattle.refusal.specs.declared.Answer.the-variants.{Accepted};
 ghost use Rattle.refusal.specs.Checks.{inOrder};
+ghost use Rattle.layout.specs.Rules.{layoutChecks};
 ghost use Rattle.regions.specs.Slots.{slotOf, slotsOf, rectangleInside};
-ghost use Rattle.regions.specs.Rules.{slotAt, rectangleAt, boxInRectangle, cubeBox, slotChecks, regionBoxChecks};
+ghost use Rattle.regions.specs.Rules.{slotAt, boxInRectangle, slotChecks};
+ghost use Rattle.regions.specs.Steps.{boxIn, foundBox};
 ghost use Rattle.regions.specs.Calls.{placeAnswer};
 use crate::Rectangle;
 use crate::Region;
@@ -14,6 +16,12 @@ use layout::CubeLayout;
 use layout::ElementBox;
 use refusal::Answer;
 use refusal::Refusal;
+
+// A box of the cube, or refused with the index at fault.
+pub(crate) enum FoundBox {
+    At(ElementBox),
+    Refused(Refusal, usize),
+}
 
 // What a slot holds.
 fn region_at(table: RegionTable, slot: u32) -> Region
@@ -90,36 +98,37 @@ fn check_slot(table: RegionTable, slot: u32) -> Answer
     Answer::Accepted
 }
 
-// Checks 1 to 4, 8, 9 of a box in a region.
-pub(crate) fn check_box(table: RegionTable, slot: u32, b: ElementBox) -> Answer
-    ensures { λ r. ⌜ r ≡ inOrder (regionBoxChecks (table .layout) (slotsOf table) slot b) ⌝ }
+// The box of the cube that a box of a rectangle is. Check 9.
+fn box_in(layout: CubeLayout, g: Rectangle, b: ElementBox) -> FoundBox
+    requires { ⌜ inOrder (layoutChecks layout) ≡ Accepted ⌝ }
+    ensures { λ r. ⌜ r ≡ boxIn layout g b ⌝ }
 {
-    let a = check_slot(table, slot);
-    let Answer::Accepted = a else {
-        return a;
-    };
-    let g = region_at(table, slot);
-    if !rectangle_inside(table.layout, g.rectangle) {
-        return Answer::Refused(Refusal::Bounds, 0);
+    if !rectangle_inside(layout, g) {
+        return FoundBox::Refused(Refusal::Bounds, 0);
     }
-    if !box_inside(table.layout, g.rectangle, b) {
-        return Answer::Refused(Refusal::Bounds, 0);
+    if !box_inside(layout, g, b) {
+        return FoundBox::Refused(Refusal::Bounds, 0);
     }
-    Answer::Accepted
-}
-
-// The box of the cube that a box of a region is.
-pub(crate) fn cube_box(table: RegionTable, slot: u32, b: ElementBox) -> ElementBox
-    requires { ⌜ inOrder (regionBoxChecks (table .layout) (slotsOf table) slot b) ≡ Accepted ⌝ }
-    ensures { λ r. ⌜ r ≡ cubeBox (rectangleAt (slotsOf table) slot) b ⌝ }
-{
-    let g = region_at(table, slot);
-    ElementBox {
+    let moved = ElementBox {
         channel: b.channel,
-        row: g.rectangle.row + b.row,
-        column: g.rectangle.column + b.column,
+        row: g.row + b.row,
+        column: g.column + b.column,
         channels: b.channels,
         rows: b.rows,
         columns: b.columns,
+    };
+    FoundBox::At(moved)
+}
+
+// The box of the cube that a box of a region is. Checks 1 to 4, 8, 9.
+pub(crate) fn find_box(table: RegionTable, slot: u32, b: ElementBox) -> FoundBox
+    ensures { λ r. ⌜ r ≡ foundBox table slot b ⌝ }
+{
+    match check_slot(table, slot) {
+        Answer::Refused(refusal, at) => FoundBox::Refused(refusal, at),
+        Answer::Accepted => {
+            let region = region_at(table, slot);
+            box_in(table.layout, region.rectangle, b)
+        }
     }
 }
