@@ -22,7 +22,7 @@ use Rattle.layout.proofs.ContentLaws.{packed-length}
 use Rattle.regions.specs.declared.Rectangle.{Rectangle}
 use Rattle.regions.specs.declared.RegionTable.{RegionTable}
 use Rattle.regions.specs.Slots.{filled, slotOf, slotsOf}
-use Rattle.regions.specs.Rules.{placeChecks, readChecks, editChecks, rectangleAt, cubeBox}
+use Rattle.regions.specs.Rules.{access, placeChecks, readChecks, editChecks, rectangleAt, cubeBox}
 use Rattle.regions.specs.Calls.{placedRegion, placeAnswer, placeTable, editAnswer, editBuffer, readAnswer, readElements}
 use Rattle.regions.proofs.CallLaws.{read-accepted, edit-accepted}
 use Rattle.history.specs.Program.{Call, place, edit, read, none, lends, SixteenBit, State, step}
@@ -57,16 +57,16 @@ module _ (q : CubeLayout) (before : List ℕ) where
     len : length (s .buffer) ≡ length before
     len = ap length (a .bytes) ∙ packed-length q (m .raw) before
 
-    same-place : (n : ℕ) (g : Rectangle) → placeAnswer (s .table) n g ≡ inOrder (placeChecks q (m .slots) n g)
+    same-place : (n : ℕ) (g : Rectangle) → placeAnswer (s .table) n g ≡ inOrder (placeChecks (access q (m .slots) n) g)
     unfolding placeAnswer
     same-place n g = rw (a .slots, a .layout)
 
     module _ (n : ℕ) (b : ElementBox) (xs : List ℤ) where
-      same-edit : editAnswer (s .table) n b xs (length (s .buffer)) ≡ inOrder (editChecks q (m .slots) n b xs (length before))
+      same-edit : editAnswer (s .table) n b xs (length (s .buffer)) ≡ inOrder (editChecks (access q (m .slots) n) b xs (length before))
       unfolding editAnswer
       same-edit = rw (a .slots, a .layout, len)
 
-      same-read : readAnswer (s .table) n b (length xs) (length (s .buffer)) ≡ inOrder (readChecks q (m .slots) n b (length xs) (length before))
+      same-read : readAnswer (s .table) n b (length xs) (length (s .buffer)) ≡ inOrder (readChecks (access q (m .slots) n) b (length xs) (length before))
       unfolding readAnswer
       same-read = rw (a .slots, a .layout, len)
 
@@ -77,11 +77,11 @@ module _ (q : CubeLayout) (before : List ℕ) where
     same-reply (read n b xs) = ap (λ (x : Answer). record { answer = x; value = none }) (same-read n b xs)
 
     -- ---- a read
-    read-cases : (n : ℕ) (b : ElementBox) (xs : List ℤ) (v : Answer) → inOrder (readChecks q (m .slots) n b (length xs) (length before)) ≡ v
+    read-cases : (n : ℕ) (b : ElementBox) (xs : List ℤ) (v : Answer) → inOrder (readChecks (access q (m .slots) n) b (length xs) (length before)) ≡ v
         → leaves v (boxElements q (cubeBox (rectangleAt (m .slots) n) b) (packed q (m .raw) before)) xs ≡ leaves v (boxRead q (cubeBox (rectangleAt (m .slots) n) b) (m .raw)) xs
     unfolding leaves
     read-cases n b xs Accepted e =
-        let d = read-accepted q (m .slots) n b (length xs) (length before) e .admitted in
+        let d = read-accepted (access q (m .slots) n) b (length xs) (length before) e .admitted in
         packed-boxRead q (d .layout) (cubeBox (rectangleAt (m .slots) n) b) (d .inside) (m .raw) before (a .count) (a .fits) (d .room)
     read-cases n b xs (Refused r i) e = refl
 
@@ -100,11 +100,11 @@ module _ (q : CubeLayout) (before : List ℕ) where
         bytes : leaves v (edited q (cubeBox (rectangleAt (m .slots) n) b) xs (packed q (m .raw) before)) (packed q (m .raw) before)
             ≡ packed q (leaves v (boxWritten q (cubeBox (rectangleAt (m .slots) n) b) xs (m .raw)) (m .raw)) before
 
-      edit-cases : (v : Answer) → inOrder (editChecks q (m .slots) n b xs (length before)) ≡ v → Written v
+      edit-cases : (v : Answer) → inOrder (editChecks (access q (m .slots) n) b xs (length before)) ≡ v → Written v
       unfolding leaves
       edit-cases Accepted e =
           let box = cubeBox (rectangleAt (m .slots) n) b in
-          let v = edit-accepted q (m .slots) n b xs (length before) e in
+          let v = edit-accepted (access q (m .slots) n) b xs (length before) e in
           let d = v .reads .admitted in
           let own : Fits q xs = record { fit = λ i h. valueValid-fits (q .precision) (getD xs i (pos 0)) (valueChecks-valid (q .precision) xs (v .values) i h) (sixteen .each i) } in
           record {

@@ -24,7 +24,7 @@ use Rattle.layout.proofs.Formulas.{element-own}
 use Rattle.regions.specs.declared.Rectangle.{Rectangle}
 use Rattle.regions.specs.declared.RegionTable.{RegionTable}
 use Rattle.regions.specs.Slots.{Slot, empty, filled, slotOf, slotsOf, emptySlots, rectangleHas, rectangleInside}
-use Rattle.regions.specs.Rules.{slotAt, placeChecks}
+use Rattle.regions.specs.Rules.{access, accessOf, slotAt, placeChecks}
 use Rattle.regions.specs.Calls.{emptyTable, placeAnswer, placeTable}
 use Rattle.regions.proofs.RuleLaws.{Placing, place-accepted, rectangle-columns, rectangle-rows}
 use Rattle.regions.proofs.OverlapLaws.{InRectangle, has-in, overlaps-apart}
@@ -60,7 +60,7 @@ set-cases slots n k g f e =
     at-it s =
         elim (decLt n (length slots)) [ yes h ↦ inl (s, (let i : filled g ≡ filled f = sym (getD-set-same slots n (filled g) empty h) ∙ sym (ap (λ (j : ℕ). getD (set slots n (filled g)) j empty) s) ∙ e in cc)) | no o ↦ inr (sym (ap (λ (l : List Slot). getD l k empty) (set-out slots n (filled g) (omega arith))) ∙ e) ]
 
-apart-placed : (q : CubeLayout) (slots : List Slot) (n : ℕ) (g : Rectangle) → Placing q slots n g → Apart q slots → Apart q (set slots n (filled g))
+apart-placed : (q : CubeLayout) (slots : List Slot) (n : ℕ) (g : Rectangle) → Placing (access q slots n) g → Apart q slots → Apart q (set slots n (filled g))
 apart-placed q slots n g p a =
     record {
       inside = λ k f e. ⊎-elim (λ s. subst (λ (r : Rectangle). rectangleInside q r ≡ true) (sym (s .1)) (p .inside)) (λ i. a .inside k f i) (set-cases slots n k g f e);
@@ -75,9 +75,9 @@ apart-placed q slots n g p a =
 
 -- ---- every moment
 module _ (t : RegionTable) (n : ℕ) (g : Rectangle) where
-  place-cases : (v : Answer) → inOrder (placeChecks (t .layout) (slotsOf t) n g) ≡ v → Apart (t .layout) (slotsOf t) → Apart (t .layout) (leaves v (set (slotsOf t) n (filled g)) (slotsOf t))
+  place-cases : (v : Answer) → inOrder (placeChecks (accessOf t n) g) ≡ v → Apart (t .layout) (slotsOf t) → Apart (t .layout) (leaves v (set (slotsOf t) n (filled g)) (slotsOf t))
   unfolding leaves
-  place-cases Accepted e a = apart-placed (t .layout) (slotsOf t) n g (place-accepted (t .layout) (slotsOf t) n g e) a
+  place-cases Accepted e a = apart-placed (t .layout) (slotsOf t) n g (place-accepted (accessOf t n) g e) a
   place-cases (Refused r i) e a = a
 
   apart-place : Apart (t .layout) (slotsOf t) → Apart (placeTable t n g .layout) (slotsOf (placeTable t n g))

@@ -24,7 +24,7 @@ use Rattle.layout.proofs.ContentLaws.{edited-kept, edited-length}
 use Rattle.regions.specs.declared.Rectangle.{Rectangle}
 use Rattle.regions.specs.declared.RegionTable.{RegionTable}
 use Rattle.regions.specs.Slots.{slotsOf}
-use Rattle.regions.specs.Rules.{rectangleAt, cubeBox, editChecks}
+use Rattle.regions.specs.Rules.{access, accessOf, rectangleAt, cubeBox, editChecks}
 use Rattle.regions.specs.Calls.{editAnswer, editBuffer, readAnswer, readElements}
 use Rattle.regions.specs.Reads.{SameRead}
 use Rattle.regions.proofs.RuleLaws.{ValidBounds}
@@ -36,12 +36,12 @@ use Rattle.history.proofs.Apart.{Apart, no-shared-byte}
 
 -- ---- what an edit changes
 module _ (t : RegionTable) (n : ℕ) (b : ElementBox) (xs : List ℤ) (buf : List ℕ) where
-  edit-cases : (v : Answer) → inOrder (editChecks (t .layout) (slotsOf t) n b xs (length buf)) ≡ v → (p : ℕ)
+  edit-cases : (v : Answer) → inOrder (editChecks (accessOf t n) b xs (length buf)) ≡ v → (p : ℕ)
       → ((c h w k : ℕ) → InBox (cubeBox (rectangleAt (slotsOf t) n) b) c h w → k < sizeOf (t .layout) → p ≡ elementPosition (t .layout) c h w + k → ⊥)
       → getD (leaves v (edited (t .layout) (cubeBox (rectangleAt (slotsOf t) n) b) xs buf) buf) p 0 ≡ getD buf p 0
   unfolding leaves
   edit-cases Accepted e p f =
-      let v = edit-accepted (t .layout) (slotsOf t) n b xs (length buf) e in
+      let v = edit-accepted (accessOf t n) b xs (length buf) e in
       edited-kept (t .layout) (cubeBox (rectangleAt (slotsOf t) n) b) xs buf (v .reads .admitted .layout) p f
   edit-cases (Refused r i) e p f = refl
 
@@ -91,8 +91,8 @@ module _ (t : RegionTable) (a : Apart (t .layout) (slotsOf t)) (n m : ℕ) (d : 
   bytes-kept r Accepted e c h w k i hk =
       let q = t .layout in
       let slots = slotsOf t in
-      let mine = read-accepted q slots m b′ (length ys) (length buf) r .region in
-      let theirs = edit-accepted q slots n b xs (length buf) e .reads .region in
+      let mine = read-accepted (access q slots m) b′ (length ys) (length buf) r .region in
+      let theirs = edit-accepted (access q slots n) b xs (length buf) e .reads .region in
       edit-names t n b xs buf (elementPosition q c h w + k)
       (λ c′ h′ w′ k′ i′ hk′ s.
       no-shared-byte q (mine .slot .layout) slots a m n (λ z. d (sym z)) (rectangleAt slots m) (rectangleAt slots n) (mine .slot .placed) (theirs .slot .placed) c h w k c′ h′ w′ k′

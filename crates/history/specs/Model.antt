@@ -14,7 +14,7 @@ use Rattle.layout.specs.Geometry.{rawIndex}
 use Rattle.layout.specs.Boxes.{wholeBox, boxCount, boxHas, boxIndex, channelAt, rowAt, columnAt}
 use Rattle.layout.specs.Calls.{packBuffer}
 use Rattle.regions.specs.Slots.{Slot, filled, emptySlots}
-use Rattle.regions.specs.Rules.{placeChecks, readChecks, editChecks, rectangleAt, cubeBox}
+use Rattle.regions.specs.Rules.{access, placeChecks, readChecks, editChecks, rectangleAt, cubeBox}
 use Rattle.history.specs.Program.{Call, place, edit, read, none, Reply, Shown}
 
 -- the raw tensor with elements written at a box, in raw order over the box
@@ -50,9 +50,9 @@ plainStepOf answer elements raw slots = record { reply = record { answer = answe
 module _ (q : CubeLayout) (len : ℕ) where
   -- the answer to a call, by its order of checks
   unfoldable pub plainAnswer : Plain → Call → Answer
-  plainAnswer s (place n g) = inOrder (placeChecks q (s .slots) n g)
-  plainAnswer s (edit n b xs) = inOrder (editChecks q (s .slots) n b xs len)
-  plainAnswer s (read n b xs) = inOrder (readChecks q (s .slots) n b (length xs) len)
+  plainAnswer s (place n g) = inOrder (placeChecks (access q (s .slots) n) g)
+  plainAnswer s (edit n b xs) = inOrder (editChecks (access q (s .slots) n) b xs len)
+  plainAnswer s (read n b xs) = inOrder (readChecks (access q (s .slots) n) b (length xs) len)
 
   -- one call: refused, it changes nothing
   unfoldable pub plainStep : Plain → Call → PlainStep

@@ -18,7 +18,6 @@ use Rattle.refusal.specs.declared.Quantity.the-variants.{Refused as NotGiven}
 use Rattle.refusal.specs.Checks.{inOrder}
 use Rattle.refusal.proofs.CheckLaws.{inOrder-front, inOrder-back, inOrder-passed, inOrder-refused, leaves-done, leaves-before, result-given, result-refused}
 use Rattle.elements.specs.Values.{valueChecks}
-use Rattle.layout.specs.declared.CubeLayout.{CubeLayout}
 use Rattle.layout.specs.declared.ElementBox.{ElementBox}
 use Rattle.layout.specs.Boxes.{oneElement, boxCount}
 use Rattle.layout.specs.Rules.{boxChecks, storageChecks, admitChecks}
@@ -27,8 +26,7 @@ use Rattle.layout.proofs.BoxLaws.{valid-box}
 use Rattle.layout.proofs.CallLaws as layout
 use Rattle.regions.specs.declared.Rectangle.{Rectangle}
 use Rattle.regions.specs.declared.RegionTable.{RegionTable}
-use Rattle.regions.specs.Slots.{Slot, slotsOf}
-use Rattle.regions.specs.Rules.{rectangleAt, cubeBox, regionBoxChecks, readChecks, editChecks}
+use Rattle.regions.specs.Rules.{Access, accessOf, regionBox, regionBoxChecks, readChecks, editChecks}
 use Rattle.regions.specs.Calls.{placedRegion, placeAnswer, placeTable, editAnswer, editBuffer, readAnswer, readElements, regionPosition}
 use Rattle.regions.specs.declared.rules.FoundBox.the-variants.{At, Refused as NotFound}
 use Rattle.regions.specs.Steps.{foundBox}
@@ -36,72 +34,71 @@ use Rattle.regions.proofs.RuleLaws.{ValidBox, box-accepted}
 use Rattle.regions.proofs.StepLaws.{found-refused, found-at}
 
 -- an accepted read: its box is valid, and the cube's box is admitted
-pub record ValidRead (q : CubeLayout) (slots : List Slot) (n : ℕ) (b : ElementBox) (given len : ℕ) : Type 0 where
-  pub region : ValidBox q slots n b
-  pub admitted : layout.Admitted q (cubeBox (rectangleAt slots n) b) given len
+pub record ValidRead (a : Access) (b : ElementBox) (given len : ℕ) : Type 0 where
+  pub region : ValidBox a b
+  pub admitted : layout.Admitted (a .layout) (regionBox a b) given len
 
 -- an accepted edit: also its elements fit
-pub record ValidEdit (q : CubeLayout) (slots : List Slot) (n : ℕ) (b : ElementBox) (xs : List ℤ) (len : ℕ) : Type 0 where
-  pub reads : ValidRead q slots n b (length xs) len
-  pub values : inOrder (valueChecks (q .precision) xs) ≡ Accepted
+pub record ValidEdit (a : Access) (b : ElementBox) (xs : List ℤ) (len : ℕ) : Type 0 where
+  pub reads : ValidRead a b (length xs) len
+  pub values : inOrder (valueChecks (a .layout .precision) xs) ≡ Accepted
 
-module _ (q : CubeLayout) (slots : List Slot) (n : ℕ) (b : ElementBox) where
-  box-passes : inOrder (regionBoxChecks q slots n b) ≡ Accepted → inOrder (boxChecks q (cubeBox (rectangleAt slots n) b)) ≡ Accepted
+module _ (a : Access) (b : ElementBox) where
+  box-passes : inOrder (regionBoxChecks a b) ≡ Accepted → inOrder (boxChecks (a .layout) (regionBox a b)) ≡ Accepted
   box-passes ok =
-      let v = box-accepted q slots n b ok in
-      sym (layout.box-accepted q (cubeBox (rectangleAt slots n) b) (v .slot .checked) (valid-box q (cubeBox (rectangleAt slots n) b) (v .bounds .box)))
+      let v = box-accepted a b ok in
+      sym (layout.box-accepted (a .layout) (regionBox a b) (v .slot .checked) (valid-box (a .layout) (regionBox a b) (v .bounds .box)))
 
-  after-9 : (rest : List Answer) → inOrder (regionBoxChecks q slots n b) ≡ Accepted
-      → inOrder (boxChecks q (cubeBox (rectangleAt slots n) b) ++ rest) ≡ inOrder (regionBoxChecks q slots n b ++ rest)
+  after-9 : (rest : List Answer) → inOrder (regionBoxChecks a b) ≡ Accepted → inOrder (boxChecks (a .layout) (regionBox a b) ++ rest) ≡ inOrder (regionBoxChecks a b ++ rest)
   after-9 rest ok = inOrder-passed _ rest (box-passes ok) ∙ sym (inOrder-passed _ rest ok)
 
-  pub read-accepted : (given len : ℕ) → inOrder (readChecks q slots n b given len) ≡ Accepted → ValidRead q slots n b given len
+  pub read-accepted : (given len : ℕ) → inOrder (readChecks a b given len) ≡ Accepted → ValidRead a b given len
   unfolding readChecks admitChecks boxCount
   read-accepted given len e =
-      let ok = inOrder-front (regionBoxChecks q slots n b) _ e in
-      record { region = box-accepted q slots n b ok; admitted = layout.admitted q (cubeBox (rectangleAt slots n) b) given len (after-9 _ ok ∙ e) }
+      let ok = inOrder-front (regionBoxChecks a b) _ e in
+      record { region = box-accepted a b ok; admitted = layout.admitted (a .layout) (regionBox a b) given len (after-9 _ ok ∙ e) }
 
-  pub edit-accepted : (xs : List ℤ) (len : ℕ) → inOrder (editChecks q slots n b xs len) ≡ Accepted → ValidEdit q slots n b xs len
+  pub edit-accepted : (xs : List ℤ) (len : ℕ) → inOrder (editChecks a b xs len) ≡ Accepted → ValidEdit a b xs len
   unfolding editChecks readChecks
   edit-accepted xs len e =
-      let ok = inOrder-front (regionBoxChecks q slots n b) _ e in
-      let rest = inOrder-back (regionBoxChecks q slots n b) _ e in
-      let storage = storageChecks q (boxCount b) (length xs) len in
+      let ok = inOrder-front (regionBoxChecks a b) _ e in
+      let rest = inOrder-back (regionBoxChecks a b) _ e in
+      let storage = storageChecks (a .layout) (boxCount b) (length xs) len in
       record { reads = read-accepted (length xs) len (inOrder-passed _ storage ok ∙ inOrder-front storage _ rest); values = inOrder-back storage _ rest }
 
 -- ---- edit and read: refused before the box is found, and past it
 module _ (t : RegionTable) (n : ℕ) (b : ElementBox) where
   module _ (xs : List ℤ) (before : List ℕ) where
-    pub edit-refused : {r : Refusal} {i : ℕ} → foundBox t n b ≡ NotFound r i
+    pub edit-refused : {r : Refusal} {i : ℕ} → foundBox (accessOf t n) b ≡ NotFound r i
         → (Refused r i ≡ editAnswer t n b xs (length before)) × (before ≡ editBuffer t n b xs before)
     unfolding editAnswer editChecks editBuffer
     edit-refused e =
-        let denied = inOrder-refused (regionBoxChecks (t .layout) (slotsOf t) n b) _ (found-refused t n b e) in
+        let denied = inOrder-refused (regionBoxChecks (accessOf t n) b) _ (found-refused (accessOf t n) b e) in
         (sym denied, sym (leaves-before _ before denied))
 
-    pub edit-found : {box : ElementBox} → foundBox t n b ≡ At box
+    pub edit-found : {box : ElementBox} → foundBox (accessOf t n) b ≡ At box
         → (writeBoxAnswer (t .layout) box xs (length before) ≡ editAnswer t n b xs (length before)) × (writeBoxBuffer (t .layout) box xs before ≡ editBuffer t n b xs before)
     unfolding writeBoxAnswer writeBoxBuffer admitChecks editAnswer editChecks editBuffer boxCount
     edit-found e =
-        let f = found-at t n b e in
+        let f = found-at (accessOf t n) b e in
         let same =
-        ap inOrder (append-assoc (boxChecks (t .layout) (cubeBox (rectangleAt (slotsOf t) n) b)) _ _) ∙ after-9 (t .layout) (slotsOf t) n b _ (f .0) in
+        ap inOrder (append-assoc (boxChecks (t .layout) (regionBox (accessOf t n) b)) _ _) ∙ after-9 (accessOf t n) b _ (f .0) in
         (rw (f .1) same, rw (f .1, same))
 
   module _ (buffer : List ℕ) (before : List ℤ) where
-    pub read-refused : {r : Refusal} {i : ℕ} → foundBox t n b ≡ NotFound r i
+    pub read-refused : {r : Refusal} {i : ℕ} → foundBox (accessOf t n) b ≡ NotFound r i
         → (Refused r i ≡ readAnswer t n b (length before) (length buffer)) × (before ≡ readElements t n b buffer before)
     unfolding readAnswer readChecks readElements
     read-refused e =
-        let denied = inOrder-refused (regionBoxChecks (t .layout) (slotsOf t) n b) _ (found-refused t n b e) in
+        let denied = inOrder-refused (regionBoxChecks (accessOf t n) b) _ (found-refused (accessOf t n) b e) in
         (sym denied, sym (leaves-before _ before denied))
 
-    pub read-found : {box : ElementBox} → foundBox t n b ≡ At box
+    pub read-found : {box : ElementBox} → foundBox (accessOf t n) b ≡ At box
         → (readBoxAnswer (t .layout) box (length before) (length buffer) ≡ readAnswer t n b (length before) (length buffer)) × (readBoxElements (t .layout) box buffer before ≡ readElements t n b buffer before)
     unfolding readBoxAnswer readBoxElements admitChecks readAnswer readChecks readElements boxCount
     read-found e =
-        let f = found-at t n b e in
-        let same = after-9 (t .layout) (slotsOf t) n b _ (f .0) in
+        let f = found-at (accessOf t n) b e in
+        let same = after-9 (accessOf t n) b _ (f .0) in
         (rw (f .1) same, rw (f .1, same))
 
 -- ---- place
@@ -116,12 +113,12 @@ module _ (t : RegionTable) (n : ℕ) (g : Rectangle) where
 
 -- ---- position
 module _ (t : RegionTable) (n c h w : ℕ) where
-  pub position-refused : {r : Refusal} {i : ℕ} → foundBox t n (oneElement c h w) ≡ NotFound r i → NotGiven r i ≡ regionPosition t n c h w
+  pub position-refused : {r : Refusal} {i : ℕ} → foundBox (accessOf t n) (oneElement c h w) ≡ NotFound r i → NotGiven r i ≡ regionPosition t n c h w
   unfolding regionPosition
-  position-refused e = sym (result-refused _ _ _ (found-refused t n (oneElement c h w) e))
+  position-refused e = sym (result-refused _ _ _ (found-refused (accessOf t n) (oneElement c h w) e))
 
-  pub position-found : {box : ElementBox} → foundBox t n (oneElement c h w) ≡ At box → positionQuantity (t .layout) (box .channel) (box .row) (box .column) ≡ regionPosition t n c h w
+  pub position-found : {box : ElementBox} → foundBox (accessOf t n) (oneElement c h w) ≡ At box → positionQuantity (t .layout) (box .channel) (box .row) (box .column) ≡ regionPosition t n c h w
   unfolding regionPosition positionQuantity
   position-found e =
-      let f = found-at t n (oneElement c h w) e in
-      rw (f .1) (result-given _ _ _ (box-passes (t .layout) (slotsOf t) n (oneElement c h w) (f .0)) ∙ sym (result-given _ _ _ (f .0)))
+      let f = found-at (accessOf t n) (oneElement c h w) e in
+      rw (f .1) (result-given _ _ _ (box-passes (accessOf t n) (oneElement c h w) (f .0)) ∙ sym (result-given _ _ _ (f .0)))

@@ -18,8 +18,7 @@ use Rattle.layout.specs.Boxes.{boxCount, boxHas, channelAt, rowAt, columnAt}
 use Rattle.layout.specs.Contents.{readElement, boxElements}
 use Rattle.layout.proofs.BoxLaws.{BoxValid, at-in, in-boxHas}
 use Rattle.regions.specs.declared.RegionTable.{RegionTable}
-use Rattle.regions.specs.Slots.{slotsOf}
-use Rattle.regions.specs.Rules.{rectangleAt, cubeBox, slotChecks, regionBoxChecks, readChecks}
+use Rattle.regions.specs.Rules.{accessOf, regionBox, slotChecks, regionBoxChecks, readChecks}
 use Rattle.regions.specs.Calls.{readAnswer, readElements}
 use Rattle.regions.specs.Reads.{SameRead}
 use Rattle.regions.proofs.CallLaws.{read-accepted}
@@ -50,9 +49,9 @@ module _ (n : ℕ) (b : ElementBox) (t t′ : RegionTable) (buffer buffer′ : L
   pub same-elements : readAnswer t n b (length xs) (length buffer) ≡ Accepted → readElements t n b buffer xs ≡ readElements t′ n b buffer′ xs′
   unfolding readElements readAnswer
   same-elements a =
-      let box = cubeBox (rectangleAt (slotsOf t) n) b in
-      let box′ = cubeBox (rectangleAt (slotsOf t′) n) b in
-      let v = read-accepted (t .layout) (slotsOf t) n b (length xs) (length buffer) a in
+      let box = regionBox (accessOf t n) b in
+      let box′ = regionBox (accessOf t′ n) b in
+      let v = read-accepted (accessOf t n) b (length xs) (length buffer) a in
       let moved : boxElements (t .layout) box buffer′ ≡ boxElements (t′ .layout) box′ buffer′ = rw (same .slot, same .layout) in
       leaves-done (boxElements (t .layout) box buffer) xs a
       ∙ box-same (t .layout) box buffer buffer′ (same .bytes) (v .region .bounds .box)

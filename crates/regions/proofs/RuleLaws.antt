@@ -8,7 +8,7 @@ use Prim.Native.Nat.{ℕ, _+_, _<_}
 use native.Mathlib.Omega.{arith}
 use mathlib.Core.Path.{_≡_, refl}
 use mathlib.Core.Bool.{true, false}
-use mathlib.Core.List.{List, [], _∷_}
+use mathlib.Core.List.{[], _∷_}
 use lib.Dec.{ltb}
 use borrow.Author.Tests.{ltb-true, not-true}
 use Rattle.refusal.specs.declared.Answer.the-variants.{Accepted}
@@ -23,7 +23,7 @@ use Rattle.layout.proofs.Valid.{Valid, valid}
 use Rattle.layout.proofs.BoxLaws.{Span, span-inside, BoxValid}
 use Rattle.regions.specs.declared.Rectangle.{Rectangle}
 use Rattle.regions.specs.Slots.{Slot, empty, filled, rectangleInside, overlaps}
-use Rattle.regions.specs.Rules.{slotAt, isFilled, rectangleOf, rectangleAt, placeChecks, boxInRectangle, cubeBox, slotChecks, boundsChecks, regionBoxChecks}
+use Rattle.regions.specs.Rules.{Access, isFilled, rectangleOf, slotNamed, rectangleNamed, boxInRectangle, cubeBox, placeChecks, slotChecks, boundsChecks, regionBoxChecks}
 
 -- ---- rectangles and boxes
 module _ (q : CubeLayout) (g : Rectangle) where
@@ -47,22 +47,22 @@ filled-slot (filled g) e = refl
 -- ---- place: 1 to 4, 8, 9, 10
 
 -- the layout is valid, the slot is one of the sixteen and empty, the rectangle is in the cube and overlaps none
-pub record Placing (q : CubeLayout) (slots : List Slot) (n : ℕ) (g : Rectangle) : Type 0 where
-  pub layout : Valid q
-  pub number : n < 16
-  pub vacant : isFilled (slotAt slots n) ≡ false
-  pub inside : rectangleInside q g ≡ true
-  pub apart : overlaps slots g ≡ false
+pub record Placing (a : Access) (g : Rectangle) : Type 0 where
+  pub layout : Valid (a .layout)
+  pub number : a .number < 16
+  pub vacant : isFilled (slotNamed a) ≡ false
+  pub inside : rectangleInside (a .layout) g ≡ true
+  pub apart : overlaps (a .slots) g ≡ false
 
-pub place-accepted : (q : CubeLayout) (slots : List Slot) (n : ℕ) (g : Rectangle) → inOrder (placeChecks q slots n g) ≡ Accepted → Placing q slots n g
+pub place-accepted : (a : Access) (g : Rectangle) → inOrder (placeChecks a g) ≡ Accepted → Placing a g
 unfolding placeChecks Held
-place-accepted q slots n g e =
-    let held = inOrder-all _ (inOrder-back (layoutChecks q) _ e) in
+place-accepted a g e =
+    let held = inOrder-all _ (inOrder-back (layoutChecks (a .layout)) _ e) in
     let free = requireAt-held _ _ _ (held .0) in
     record {
-      layout = valid q (inOrder-front (layoutChecks q) _ e);
-      number = ltb-true n 16 (and-left _ _ free);
-      vacant = not-true _ (and-right (ltb n 16) _ free);
+      layout = valid (a .layout) (inOrder-front (layoutChecks (a .layout)) _ e);
+      number = ltb-true (a .number) 16 (and-left _ _ free);
+      vacant = not-true _ (and-right (ltb (a .number) 16) _ free);
       inside = requireAt-held _ _ _ (held .1 .0);
       apart = not-true _ (requireAt-held _ _ _ (held .1 .1 .0));
     }
@@ -70,21 +70,21 @@ place-accepted q slots n g e =
 -- ---- a slot: 1 to 4, 8
 
 -- the layout is valid, the slot is one of the sixteen and filled
-pub record ValidSlot (q : CubeLayout) (slots : List Slot) (n : ℕ) : Type 0 where
-  pub checked : inOrder (layoutChecks q) ≡ Accepted
-  pub layout : Valid q
-  pub number : n < 16
-  pub placed : slotAt slots n ≡ filled (rectangleAt slots n)
+pub record ValidSlot (a : Access) : Type 0 where
+  pub checked : inOrder (layoutChecks (a .layout)) ≡ Accepted
+  pub layout : Valid (a .layout)
+  pub number : a .number < 16
+  pub placed : slotNamed a ≡ filled (rectangleNamed a)
 
-pub slot-accepted : (q : CubeLayout) (slots : List Slot) (n : ℕ) → inOrder (slotChecks q slots n) ≡ Accepted → ValidSlot q slots n
+pub slot-accepted : (a : Access) → inOrder (slotChecks a) ≡ Accepted → ValidSlot a
 unfolding slotChecks Held
-slot-accepted q slots n e =
-    let there = requireAt-held _ _ _ (inOrder-all _ (inOrder-back (layoutChecks q) _ e) .0) in
+slot-accepted a e =
+    let there = requireAt-held _ _ _ (inOrder-all _ (inOrder-back (layoutChecks (a .layout)) _ e) .0) in
     record {
-      checked = inOrder-front (layoutChecks q) _ e;
-      layout = valid q (inOrder-front (layoutChecks q) _ e);
-      number = ltb-true n 16 (and-left _ _ there);
-      placed = filled-slot (slotAt slots n) (and-right (ltb n 16) _ there);
+      checked = inOrder-front (layoutChecks (a .layout)) _ e;
+      layout = valid (a .layout) (inOrder-front (layoutChecks (a .layout)) _ e);
+      number = ltb-true (a .number) 16 (and-left _ _ there);
+      placed = filled-slot (slotNamed a) (and-right (ltb (a .number) 16) _ there);
     }
 
 -- ---- a box in a rectangle: 9
@@ -120,11 +120,11 @@ module _ (q : CubeLayout) (g : Rectangle) (b : ElementBox) where
   bounds-accepted e = let held = inOrder-all _ e in bounds-valid (requireAt-held _ _ _ (held .0)) (requireAt-held _ _ _ (held .1 .0))
 
 -- ---- a box in a region: 9 after 1 to 4, 8
-pub record ValidBox (q : CubeLayout) (slots : List Slot) (n : ℕ) (b : ElementBox) : Type 0 where
-  pub slot : ValidSlot q slots n
-  pub bounds : ValidBounds q (rectangleAt slots n) b
+pub record ValidBox (a : Access) (b : ElementBox) : Type 0 where
+  pub slot : ValidSlot a
+  pub bounds : ValidBounds (a .layout) (rectangleNamed a) b
 
-pub box-accepted : (q : CubeLayout) (slots : List Slot) (n : ℕ) (b : ElementBox) → inOrder (regionBoxChecks q slots n b) ≡ Accepted → ValidBox q slots n b
+pub box-accepted : (a : Access) (b : ElementBox) → inOrder (regionBoxChecks a b) ≡ Accepted → ValidBox a b
 unfolding regionBoxChecks
-box-accepted q slots n b e =
-    record { slot = slot-accepted q slots n (inOrder-front (slotChecks q slots n) _ e); bounds = bounds-accepted q (rectangleAt slots n) b (inOrder-back (slotChecks q slots n) _ e) }
+box-accepted a b e =
+    record { slot = slot-accepted a (inOrder-front (slotChecks a) _ e); bounds = bounds-accepted (a .layout) (rectangleNamed a) b (inOrder-back (slotChecks a) _ e) }

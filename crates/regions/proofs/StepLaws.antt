@@ -30,7 +30,7 @@ use Rattle.regions.specs.declared.Region.{Region}
 use Rattle.regions.specs.declared.RegionTable.{RegionTable}
 use Rattle.regions.specs.declared.rules.FoundBox.the-variants.{At, Refused as NotFound}
 use Rattle.regions.specs.Slots.{rectangle, Slot, empty, filled, slotOf, slotsOf, overlaps, rectangleInside}
-use Rattle.regions.specs.Rules.{slotAt, isFilled, rectangleOf, rectangleAt, boxInRectangle, cubeBox, slotChecks, regionBoxChecks}
+use Rattle.regions.specs.Rules.{Access, slotAt, isFilled, rectangleOf, rectangleNamed, boxInRectangle, cubeBox, regionBox, slotChecks, regionBoxChecks}
 use Rattle.regions.specs.Steps.{boxIn, foundBox}
 use Rattle.regions.proofs.RuleLaws.{ValidBounds}
 
@@ -114,22 +114,21 @@ unfolding result
 at-of Accepted v e = (refl, cc)
 at-of (Refused r i) v e = absurd (let z : _≡_ {A = ℕ} 0 1 = cc in omega arith)
 
-module _ (t : RegionTable) (n : ℕ) (b : ElementBox) where
-  pub foundBox-slot : {r : Refusal} {i : ℕ} → inOrder (slotChecks (t .layout) (slotsOf t) n) ≡ Refused r i → NotFound r i ≡ foundBox t n b
+module _ (a : Access) (b : ElementBox) where
+  pub foundBox-slot : {r : Refusal} {i : ℕ} → inOrder (slotChecks a) ≡ Refused r i → NotFound r i ≡ foundBox a b
   unfolding foundBox regionBoxChecks
-  foundBox-slot e = sym (result-refused _ _ _ (inOrder-refused (slotChecks (t .layout) (slotsOf t) n) _ e))
+  foundBox-slot e = sym (result-refused _ _ _ (inOrder-refused (slotChecks a) _ e))
 
-  pub foundBox-in : inOrder (slotChecks (t .layout) (slotsOf t) n) ≡ Accepted → {g : Rectangle} → rectangleAt (slotsOf t) n ≡ g → boxIn (t .layout) g b ≡ foundBox t n b
+  pub foundBox-in : inOrder (slotChecks a) ≡ Accepted → {g : Rectangle} → rectangleNamed a ≡ g → boxIn (a .layout) g b ≡ foundBox a b
   unfolding foundBox regionBoxChecks boxIn
   foundBox-in ok e =
-      ap (λ (r : Rectangle). boxIn (t .layout) r b) (sym e)
-      ∙ ap (λ (a : Answer). result At NotFound a (cubeBox (rectangleAt (slotsOf t) n) b)) (sym (inOrder-passed (slotChecks (t .layout) (slotsOf t) n) _ ok))
+      ap (λ (r : Rectangle). boxIn (a .layout) r b) (sym e) ∙ ap (λ (v : Answer). result At NotFound v (regionBox a b)) (sym (inOrder-passed (slotChecks a) _ ok))
 
   -- what a box found, or not found, tells
-  pub found-refused : {r : Refusal} {i : ℕ} → foundBox t n b ≡ NotFound r i → inOrder (regionBoxChecks (t .layout) (slotsOf t) n b) ≡ Refused r i
+  pub found-refused : {r : Refusal} {i : ℕ} → foundBox a b ≡ NotFound r i → inOrder (regionBoxChecks a b) ≡ Refused r i
   unfolding foundBox
   found-refused e = refused-of _ _ e
 
-  pub found-at : {box : ElementBox} → foundBox t n b ≡ At box → (inOrder (regionBoxChecks (t .layout) (slotsOf t) n b) ≡ Accepted) × (box ≡ cubeBox (rectangleAt (slotsOf t) n) b)
+  pub found-at : {box : ElementBox} → foundBox a b ≡ At box → (inOrder (regionBoxChecks a b) ≡ Accepted) × (box ≡ regionBox a b)
   unfolding foundBox
   found-at e = at-of _ _ e

@@ -16,8 +16,8 @@ use Rattle.layout.specs.Contents.{edited, boxElements}
 use Rattle.regions.specs.declared.Rectangle.{Rectangle}
 use Rattle.regions.specs.declared.Region.{Region}
 use Rattle.regions.specs.declared.RegionTable.{RegionTable}
-use Rattle.regions.specs.Slots.{rectangle, slotsOf}
-use Rattle.regions.specs.Rules.{placeChecks, regionBoxChecks, readChecks, editChecks, rectangleAt, cubeBox}
+use Rattle.regions.specs.Slots.{rectangle}
+use Rattle.regions.specs.Rules.{accessOf, rectangleNamed, regionBox, placeChecks, regionBoxChecks, readChecks, editChecks}
 
 -- the empty table of a layout
 abbrev pub emptyTable : CubeLayout → RegionTable
@@ -29,29 +29,29 @@ placedRegion g = record { placed = true; rectangle = g }
 
 -- place
 unfoldable pub placeAnswer : RegionTable → ℕ → Rectangle → Answer
-placeAnswer t n g = inOrder (placeChecks (t .layout) (slotsOf t) n g)
+placeAnswer t n g = inOrder (placeChecks (accessOf t n) g)
 
 unfoldable pub placeTable : RegionTable → ℕ → Rectangle → RegionTable
 placeTable t n g = leaves (placeAnswer t n g) (record { layout = t .layout; slots = set (t .slots) n (placedRegion g) }) t
 
 -- edit: the box is counted from the corner of the region in the slot
 unfoldable pub editAnswer : RegionTable → ℕ → ElementBox → List ℤ → ℕ → Answer
-editAnswer t n b elements len = inOrder (editChecks (t .layout) (slotsOf t) n b elements len)
+editAnswer t n b elements len = inOrder (editChecks (accessOf t n) b elements len)
 
 unfoldable pub editBuffer : RegionTable → ℕ → ElementBox → List ℤ → List ℕ → List ℕ
 editBuffer t n b elements before =
-    leaves (editAnswer t n b elements (length before)) (edited (t .layout) (cubeBox (rectangleAt (slotsOf t) n) b) elements before) before
+    leaves (editAnswer t n b elements (length before)) (edited (t .layout) (regionBox (accessOf t n) b) elements before) before
 
 -- read
 unfoldable pub readAnswer : RegionTable → ℕ → ElementBox → ℕ → ℕ → Answer
-readAnswer t n b given len = inOrder (readChecks (t .layout) (slotsOf t) n b given len)
+readAnswer t n b given len = inOrder (readChecks (accessOf t n) b given len)
 
 unfoldable pub readElements : RegionTable → ℕ → ElementBox → List ℕ → List ℤ → List ℤ
 readElements t n b buffer before =
-    leaves (readAnswer t n b (length before) (length buffer)) (boxElements (t .layout) (cubeBox (rectangleAt (slotsOf t) n) b) buffer) before
+    leaves (readAnswer t n b (length before) (length buffer)) (boxElements (t .layout) (regionBox (accessOf t n) b) buffer) before
 
 -- the byte at which an element begins, counted from the corner of the region in the slot: 1 to 4, 8, 9, as for a box of one element
 unfoldable pub regionPosition : RegionTable → ℕ → ℕ → ℕ → ℕ → Quantity
 regionPosition t n c h w =
-    let g = rectangleAt (slotsOf t) n in
-    quantity (inOrder (regionBoxChecks (t .layout) (slotsOf t) n (oneElement c h w))) (elementPosition (t .layout) c (g .row + h) (g .column + w))
+    let g = rectangleNamed (accessOf t n) in
+    quantity (inOrder (regionBoxChecks (accessOf t n) (oneElement c h w))) (elementPosition (t .layout) c (g .row + h) (g .column + w))

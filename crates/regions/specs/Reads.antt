@@ -11,7 +11,7 @@ use Rattle.layout.specs.Geometry.{sizeOf, elementPosition}
 use Rattle.layout.specs.Boxes.{boxHas}
 use Rattle.regions.specs.declared.RegionTable.{RegionTable}
 use Rattle.regions.specs.Slots.{slotsOf}
-use Rattle.regions.specs.Rules.{slotAt, rectangleAt, cubeBox}
+use Rattle.regions.specs.Rules.{slotAt, accessOf, regionBox}
 
 -- two tables, buffers and lent elements agree on what a read of box b through slot n depends on
 pub record SameRead (n : ℕ) (b : ElementBox) (t t′ : RegionTable) (buffer buffer′ : List ℕ) (xs xs′ : List ℤ) : Type 0 where
@@ -19,5 +19,5 @@ pub record SameRead (n : ℕ) (b : ElementBox) (t t′ : RegionTable) (buffer bu
   pub slot : slotAt (slotsOf t) n ≡ slotAt (slotsOf t′) n
   pub buffers : length buffer ≡ length buffer′
   pub lent : length xs ≡ length xs′
-  pub bytes : (c h w k : ℕ) → boxHas (cubeBox (rectangleAt (slotsOf t) n) b) c h w ≡ true → k < sizeOf (t .layout)
+  pub bytes : (c h w k : ℕ) → boxHas (regionBox (accessOf t n) b) c h w ≡ true → k < sizeOf (t .layout)
       → getD buffer (elementPosition (t .layout) c h w + k) 0 ≡ getD buffer′ (elementPosition (t .layout) c h w + k) 0

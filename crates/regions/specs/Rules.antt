@@ -15,7 +15,8 @@ use Rattle.layout.specs.declared.ElementBox.{ElementBox}
 use Rattle.layout.specs.Boxes.{spanInside, boxCount}
 use Rattle.layout.specs.Rules.{layoutChecks, storageChecks}
 use Rattle.regions.specs.declared.Rectangle.{Rectangle}
-use Rattle.regions.specs.Slots.{rectangle, Slot, empty, filled, overlaps, rectangleInside}
+use Rattle.regions.specs.declared.RegionTable.{RegionTable}
+use Rattle.regions.specs.Slots.{rectangle, Slot, empty, filled, slotsOf, overlaps, rectangleInside}
 
 -- the slot with a number; past the last there is none filled
 unfoldable pub slotAt : List Slot → ℕ → Slot
@@ -50,32 +51,55 @@ cubeBox g b =
       columns = b .columns;
     }
 
+-- what a call on a region goes by: the cube's layout, the slots, and the number of the slot that it names
+pub record Access : Type 0 where
+  pub layout : CubeLayout
+  pub slots : List Slot
+  pub number : ℕ
+
+abbrev pub access : CubeLayout → List Slot → ℕ → Access
+access q slots n = record { layout = q; slots = slots; number = n }
+
+-- on a table
+abbrev pub accessOf : RegionTable → ℕ → Access
+accessOf t n = access (t .layout) (slotsOf t) n
+
+-- the slot that it names, the rectangle there, and the box of the cube that a box of that region is
+abbrev pub slotNamed : Access → Slot
+slotNamed a = slotAt (a .slots) (a .number)
+
+abbrev pub rectangleNamed : Access → Rectangle
+rectangleNamed a = rectangleAt (a .slots) (a .number)
+
+abbrev pub regionBox : Access → ElementBox → ElementBox
+regionBox a b = cubeBox (rectangleNamed a) b
+
 -- place: 1 to 4, 8, 9, 10
-unfoldable pub placeChecks : CubeLayout → List Slot → ℕ → Rectangle → List Answer
-placeChecks q slots n g =
-    layoutChecks q
-    ++ (require SlotRefusal (ltb n 16 && not (isFilled (slotAt slots n)))
-    ∷ require Bounds (rectangleInside q g)
-    ∷ require Overlap (not (overlaps slots g))
+unfoldable pub placeChecks : Access → Rectangle → List Answer
+placeChecks a g =
+    layoutChecks (a .layout)
+    ++ (require SlotRefusal (ltb (a .number) 16 && not (isFilled (slotNamed a)))
+    ∷ require Bounds (rectangleInside (a .layout) g)
+    ∷ require Overlap (not (overlaps (a .slots) g))
     ∷ [])
 
 -- a slot that a call goes through: 1 to 4, 8
-unfoldable pub slotChecks : CubeLayout → List Slot → ℕ → List Answer
-slotChecks q slots n = layoutChecks q ++ (require SlotRefusal (ltb n 16 && isFilled (slotAt slots n)) ∷ [])
+unfoldable pub slotChecks : Access → List Answer
+slotChecks a = layoutChecks (a .layout) ++ (require SlotRefusal (ltb (a .number) 16 && isFilled (slotNamed a)) ∷ [])
 
 -- a box in a rectangle: 9; the rectangle is in the cube, the box is in the rectangle
 abbrev pub boundsChecks : CubeLayout → Rectangle → ElementBox → List Answer
 boundsChecks q g b = require Bounds (rectangleInside q g) ∷ require Bounds (boxInRectangle q g b) ∷ []
 
 -- a box in the region of a slot: 1 to 4, 8, 9
-unfoldable pub regionBoxChecks : CubeLayout → List Slot → ℕ → ElementBox → List Answer
-regionBoxChecks q slots n b = slotChecks q slots n ++ boundsChecks q (rectangleAt slots n) b
+unfoldable pub regionBoxChecks : Access → ElementBox → List Answer
+regionBoxChecks a b = slotChecks a ++ boundsChecks (a .layout) (rectangleNamed a) b
 
 -- read: 1 to 4, 8, 9, 6, 5
-unfoldable pub readChecks : CubeLayout → List Slot → ℕ → ElementBox → ℕ → ℕ → List Answer
-readChecks q slots n b given len = regionBoxChecks q slots n b ++ storageChecks q (boxCount b) given len
+unfoldable pub readChecks : Access → ElementBox → ℕ → ℕ → List Answer
+readChecks a b given len = regionBoxChecks a b ++ storageChecks (a .layout) (boxCount b) given len
 
 -- edit: 1 to 4, 8, 9, 6, 5, 7
-unfoldable pub editChecks : CubeLayout → List Slot → ℕ → ElementBox → List ℤ → ℕ → List Answer
-editChecks q slots n b elements len =
-    regionBoxChecks q slots n b ++ (storageChecks q (boxCount b) (length elements) len ++ valueChecks (q .precision) elements)
+unfoldable pub editChecks : Access → ElementBox → List ℤ → ℕ → List Answer
+editChecks a b elements len =
+    regionBoxChecks a b ++ (storageChecks (a .layout) (boxCount b) (length elements) len ++ valueChecks (a .layout .precision) elements)

@@ -7,11 +7,10 @@ use Rattle.refusal.specs.Checks.{inOrder, result}
 use Rattle.layout.specs.declared.CubeLayout.{CubeLayout}
 use Rattle.layout.specs.declared.ElementBox.{ElementBox}
 use Rattle.regions.specs.declared.Rectangle.{Rectangle}
-use Rattle.regions.specs.declared.RegionTable.{RegionTable}
 use Rattle.regions.specs.declared.rules.FoundBox.{FoundBox}
 use Rattle.regions.specs.declared.rules.FoundBox.the-variants.{At, Refused}
-use Rattle.regions.specs.Slots.{Slot, empty, filled, slotsOf}
-use Rattle.regions.specs.Rules.{rectangleAt, cubeBox, boundsChecks, regionBoxChecks}
+use Rattle.regions.specs.Slots.{Slot, empty, filled}
+use Rattle.regions.specs.Rules.{Access, cubeBox, regionBox, boundsChecks, regionBoxChecks}
 
 -- the n numbers from a on and the m numbers from b on have one in common
 unfoldable pub spansMeet : ℕ → ℕ → ℕ → ℕ → Bool
@@ -27,5 +26,5 @@ unfoldable pub boxIn : CubeLayout → Rectangle → ElementBox → FoundBox
 boxIn q g b = result At Refused (inOrder (boundsChecks q g b)) (cubeBox g b)
 
 -- the box of the cube that a box of a region is, or refused by 1 to 4, 8, 9
-unfoldable pub foundBox : RegionTable → ℕ → ElementBox → FoundBox
-foundBox t n b = result At Refused (inOrder (regionBoxChecks (t .layout) (slotsOf t) n b)) (cubeBox (rectangleAt (slotsOf t) n) b)
+unfoldable pub foundBox : Access → ElementBox → FoundBox
+foundBox a b = result At Refused (inOrder (regionBoxChecks a b)) (regionBox a b)

@@ -5,7 +5,7 @@ ghost use Rattle.refusal.specs.declared.Answer.the-variants.{Accepted};
 ghost use Rattle.refusal.specs.Checks.{inOrder};
 ghost use Rattle.layout.specs.Rules.{layoutChecks};
 ghost use Rattle.regions.specs.Slots.{slotOf, slotsOf, rectangleInside};
-ghost use Rattle.regions.specs.Rules.{slotAt, boxInRectangle, slotChecks};
+ghost use Rattle.regions.specs.Rules.{slotAt, boxInRectangle, accessOf, slotChecks};
 ghost use Rattle.regions.specs.Steps.{boxIn, foundBox};
 ghost use Rattle.regions.specs.Calls.{placeAnswer};
 use crate::Rectangle;
@@ -82,7 +82,7 @@ pub(crate) fn check_place(table: RegionTable, slot: u32, g: Rectangle) -> Answer
 
 // Checks 1 to 4, 8 of a call through a region.
 fn check_slot(table: RegionTable, slot: u32) -> Answer
-    ensures { λ r. ⌜ r ≡ inOrder (slotChecks (table .layout) (slotsOf table) slot) ⌝ }
+    ensures { λ r. ⌜ r ≡ inOrder (slotChecks (accessOf table slot)) ⌝ }
 {
     let a = layout::check(table.layout);
     let Answer::Accepted = a else {
@@ -122,7 +122,7 @@ fn box_in(layout: CubeLayout, g: Rectangle, b: ElementBox) -> FoundBox
 
 // The box of the cube that a box of a region is. Checks 1 to 4, 8, 9.
 pub(crate) fn find_box(table: RegionTable, slot: u32, b: ElementBox) -> FoundBox
-    ensures { λ r. ⌜ r ≡ foundBox table slot b ⌝ }
+    ensures { λ r. ⌜ r ≡ foundBox (accessOf table slot) b ⌝ }
 {
     match check_slot(table, slot) {
         Answer::Refused(refusal, at) => FoundBox::Refused(refusal, at),

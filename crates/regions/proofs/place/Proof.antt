@@ -1,7 +1,7 @@
 -- `regions::place` meets its contract: a refused placing leaves the table, an accepted one sets the slot. Assumes nothing.
 use mathlib.Core.Path.{_≡_, sym, _∙_}
 use Rattle.refusal.specs.declared.Answer.the-variants.{Accepted}
-use Rattle.regions.specs.Slots.{slotsOf}
+use Rattle.regions.specs.Rules.{accessOf}
 use Rattle.regions.specs.Calls.{placeAnswer}
 use Rattle.regions.proofs.CallLaws.{place-kept, place-left}
 use Rattle.regions.proofs.RuleLaws.{place-accepted}
@@ -33,7 +33,7 @@ array-set-from-slots : tie.Need-array-set-from-slots
 unfolding placeAnswer
 array-set-from-slots c = let d = c .before .before in
     let s = d .before .before .before in
-    place-accepted (s .args .table .layout) (slotsOf (s .args .table)) (s .args .slot) (s .args .rectangle) (accepted d) .number
+    place-accepted (accessOf (s .args .table) (s .args .slot)) (s .args .rectangle) (accepted d) .number
 
 returns-2 : tie.Need-returns-2
 returns-2 c = let d = c .before .before in

@@ -9,7 +9,7 @@ use Rattle.refusal.specs.Checks.{require, inOrder}
 use Rattle.refusal.proofs.CheckLaws.{inOrder-nil, inOrder-next, inOrder-stop, inOrder-passed, inOrder-refused}
 use Rattle.layout.specs.Rules.{layoutChecks}
 use Rattle.regions.specs.Slots.{slotsOf}
-use Rattle.regions.specs.Rules.{slotAt, isFilled, slotChecks}
+use Rattle.regions.specs.Rules.{slotAt, isFilled, accessOf, slotChecks}
 use Rattle.regions.proofs.StepLaws.{number-past, filled-is}
 use borrow.Author.Needs.{needs}
 use Rattle.regions.proofs.rules.check_slot.Statement.{statement}
@@ -18,7 +18,7 @@ use Rattle.regions.proofs.rules.check_slot.Tie as tie
 -- the layout is valid: check 8 is left
 at-8 : (c : tie.After-enum-told)
     → let a = c .before .before .before .args in
-    inOrder (slotChecks (a .table .layout) (slotsOf (a .table)) (a .slot)) ≡ inOrder (require SlotRefusal (ltb (a .slot) 16 && isFilled (slotAt (slotsOf (a .table)) (a .slot))) ∷ [])
+    inOrder (slotChecks (accessOf (a .table) (a .slot))) ≡ inOrder (require SlotRefusal (ltb (a .slot) 16 && isFilled (slotAt (slotsOf (a .table)) (a .slot))) ∷ [])
 unfolding slotChecks
 at-8 c = inOrder-passed (layoutChecks (c .before .before .before .args .table .layout)) _ (sym (c .before .before .check .ensures) ∙ c .enum-told .given .1)
 

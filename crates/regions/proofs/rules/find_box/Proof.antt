@@ -2,8 +2,7 @@
 use mathlib.Core.Path.{_≡_, sym, _∙_}
 use Rattle.refusal.specs.declared.Answer.the-variants.{Accepted}
 use Rattle.refusal.specs.Checks.{inOrder}
-use Rattle.regions.specs.Slots.{slotsOf}
-use Rattle.regions.specs.Rules.{slotChecks}
+use Rattle.regions.specs.Rules.{accessOf, slotChecks}
 use Rattle.regions.proofs.RuleLaws.{ValidSlot, slot-accepted}
 use Rattle.regions.proofs.StepLaws.{rectangle-is, foundBox-slot, foundBox-in}
 use borrow.Author.Needs.{needs}
@@ -11,11 +10,11 @@ use Rattle.regions.proofs.rules.find_box.Statement.{statement}
 use Rattle.regions.proofs.rules.find_box.Tie as tie
 
 -- the slot is valid
-slot-held : (c : tie.After-enum-told) → let a = c .before .before .before .args in inOrder (slotChecks (a .table .layout) (slotsOf (a .table)) (a .slot)) ≡ Accepted
+slot-held : (c : tie.After-enum-told) → let a = c .before .before .before .args in inOrder (slotChecks (accessOf (a .table) (a .slot))) ≡ Accepted
 slot-held c = sym (c .before .before .check-slot .ensures) ∙ c .enum-told .given .1
 
-slot-valid : (c : tie.After-enum-told) → let a = c .before .before .before .args in ValidSlot (a .table .layout) (slotsOf (a .table)) (a .slot)
-slot-valid c = let a = c .before .before .before .args in slot-accepted (a .table .layout) (slotsOf (a .table)) (a .slot) (slot-held c)
+slot-valid : (c : tie.After-enum-told) → let a = c .before .before .before .args in ValidSlot (accessOf (a .table) (a .slot))
+slot-valid c = let a = c .before .before .before .args in slot-accepted (accessOf (a .table) (a .slot)) (slot-held c)
 
 check-slot-requires : tie.Need-check-slot-requires
 check-slot-requires c κs = search needs
@@ -35,13 +34,13 @@ box-in-requires c κs = slot-valid (c .before) .checked
 returns : tie.Need-returns
 returns c = let d = c .before .before .before in
     let a = d .before .args in
-    foundBox-slot (a .table) (a .slot) (a .b) (sym (d .check-slot .ensures) ∙ c .before .refusal .given .1)
+    foundBox-slot (accessOf (a .table) (a .slot)) (a .b) (sym (d .check-slot .ensures) ∙ c .before .refusal .given .1)
 
 returns-2 : tie.Need-returns-2
 returns-2 c = let r = c .before in
     let e = r .before in
     let a = e .before .before .before .args in
-    c .box-in .ensures ∙ foundBox-in (a .table) (a .slot) (a .b) (slot-held e) (rectangle-is (r .region-at .result) (r .region-at .ensures) (slot-valid e .placed))
+    c .box-in .ensures ∙ foundBox-in (accessOf (a .table) (a .slot)) (a .b) (slot-held e) (rectangle-is (r .region-at .result) (r .region-at .ensures) (slot-valid e .placed))
 
 pub find-box-spec : {M : Type 1} → statement M
 find-box-spec =
