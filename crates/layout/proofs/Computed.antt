@@ -5,8 +5,8 @@ use mathlib.Core.Path.{_≡_, refl}
 use mathlib.Core.Bool.{true, false}
 use mathlib.Core.List.{List, [], _∷_, _++_, map}
 use lib.IntN.{pos, negsuc}
-use lib.ListN.{replicate, take}
-use Rattle.refusal.specs.declared.Refusal.the-variants.{Size, Precision, CubeStrides, CubeStart, Int8Range}
+use lib.ListN.{replicate}
+use Rattle.refusal.specs.declared.Refusal.the-variants.{CubeStart, Int8Range}
 use Rattle.refusal.specs.declared.Answer.the-variants.{Refused}
 use Rattle.refusal.specs.Codes.{answerCode, quantityAnswer}
 use Rattle.refusal.specs.Checks.{requireAt, inOrder, result}
@@ -21,7 +21,7 @@ use Rattle.layout.specs.Boxes.{oneElement, boxCount, spanInside, boxInsi
 use Rattle.layout.specs.Owners.{element, padding, outside, surfaceOf, rowOf, columnOf, byteInAtom, inAtom, atomOwner, owner}
 use Rattle.layout.specs.Rules.{sizesValid, wholeAtoms, stridesValid, layoutChecks, boxChecks, storageChecks, cubeChecks, admitChecks}
 use Rattle.layout.specs.Contents.{packedByte, editedByte}
-use Rattle.layout.specs.Whose.{inExtent, byteOwner, whoseAnswer}
+use Rattle.layout.specs.Whose.{inExtent, byteOwner, whoseAnswer, ownerAnswer}
 use Rattle.layout.specs.Calls.{packAnswer, unpackAnswer, writeBoxAnswer, readBoxAnswer, extentQuantity, positionQuantity}
 
 abbrev frame : CubeLayout
@@ -154,7 +154,7 @@ pub record Answered : Type 0 where
   pub first : whoseAnswer (layoutOf 3 2 40 0 128 256 32) 32 ≡ Element 0 0 0 0
   -- a start of 16 is refused, wherever the byte lies; two at once: 1 and 2, 2 and 3, 3 and 4
   pub refused : whoseAnswer (layoutOf 3 2 40 0 128 256 16) 0 ≡ NotGiven CubeStart 0
-  pub double : map (λ (q : CubeLayout). whoseAnswer q 0) (take 3 wrong) ≡ NotGiven Size 0 ∷ NotGiven Precision 0 ∷ NotGiven CubeStrides 0 ∷ []
+  pub double : map (λ (q : CubeLayout). answerCode (ownerAnswer (whoseAnswer q 0))) wrong ≡ 1 ∷ 2 ∷ 3 ∷ 4 ∷ 0 ∷ []
 
 pub answered : Answered
 unfolding requireAt inOrder result sizeValid elementBytes surfaces cubeExtent surfaceOf rowOf columnOf byteInAtom inAtom atomOwner owner sizesValid wholeAtoms stridesValid layoutChecks inExtent byteOwner whoseAnswer

@@ -1,5 +1,5 @@
 -- Whose each byte of a packed buffer is, by division (scope paper, "Cells and cubes"). That an element's bytes are those from its position
--- on, and an atom's those of the paper's formula, is proved in proofs/Places.antt. Assumes nothing.
+-- on, and an atom's those of the paper's formula, is proved in proofs/Views.antt and proofs/Formulas.antt. Assumes nothing.
 use Prim.Native.Nat.{ℕ, _+_, _-_, _*_, _/_, _%_}
 use mathlib.Core.Bool.{Bool, cond, _&&_}
 use lib.Dec.{leb, ltb}

@@ -3,6 +3,8 @@
 use Prim.Native.Nat.{ℕ, _+_}
 use mathlib.Core.Bool.{Bool, cond, _&&_}
 use lib.Dec.{leb, ltb}
+use Rattle.refusal.specs.declared.Answer.{Answer}
+use Rattle.refusal.specs.declared.Answer.the-variants.{Accepted, Refused as Denied}
 use Rattle.refusal.specs.Checks.{inOrder, result}
 use Rattle.layout.specs.declared.CubeLayout.{CubeLayout}
 use Rattle.layout.specs.declared.ByteOwner.{ByteOwner}
@@ -24,3 +26,11 @@ byteOwner within outside = cond within Gap Outside
 -- whose byte p is: 1, 2, 3, 4
 unfoldable pub whoseAnswer : CubeLayout → ℕ → ByteOwner
 whoseAnswer q p = result (byteOwner (inExtent q p)) Refused (inOrder (layoutChecks q)) (owner q p)
+
+-- its answer, for the paper's number: accepted but where the layout is refused
+abbrev pub ownerAnswer : ByteOwner → Answer
+ownerAnswer (Element c h w b) = Accepted
+ownerAnswer Padding = Accepted
+ownerAnswer Gap = Accepted
+ownerAnswer Outside = Accepted
+ownerAnswer (Refused r at) = Denied r at

@@ -34,8 +34,8 @@ pub struct ElementBox {
     pub columns: u32,
 }
 
-// Whose a byte is: a byte of an element (channel, row, column, byte); a padding byte, past the last channel of its atom; in a gap between atoms,
-// lines or surfaces; outside, before the start or past the extent; or refused with the index at fault.
+// Whose a byte is: a byte of an element (channel, row, column, byte); a padding byte, past the last channel in its atom; in a gap between lines or
+// surfaces; outside, before the start or past the extent; or refused with the index at fault.
 pub enum ByteOwner {
     Element(u32, u32, u32, u32),
     Padding,
