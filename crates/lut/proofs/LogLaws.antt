@@ -1,14 +1,15 @@
 -- The logarithm, and the index of an exponential hit. Assumes nothing.
---     log-range, log-le, log-half          its range; by the leading zeros of the half
+--     log-range, log-le, log-odd           its range; by the leading zeros of the number with its last bit set
 --     reaches-pos, index-is                a hit's distance is above 0; its index is of 0..63
-use Prim.Native.Nat.{ℕ, zero, suc, _+_, _-_, _*_, _/_, _^_, _≤_, _<_}
-use native.Mathlib.Nat.{pow-le-pow-right, two-pow-succ}
+use Prim.Native.Nat.{ℕ, zero, suc, _+_, _-_, _*_, _/_, _%_, _^_, _≤_, _<_}
+use native.Mathlib.Nat.{pow-le-pow-right, two-pow-succ, max-eq-right}
 use native.Mathlib.Decide.{ℕ-discrete, decLt}
 use native.Mathlib.Omega.{arith}
 use borrow.Author.Tests.{lt-ltb, le-ltb}
-use mathlib.Core.Path.{_≡_, refl, sym}
+use mathlib.Core.Path.{_≡_, refl, ap₂, _∙_}
 use mathlib.Core.Bool.{Bool, true, false, cond}
-use lib.Count.{leadingZeros, leading-top, leading-of-zero}
+use lib.Bits.{bitOr, or-step, or-zero-r}
+use lib.Count.{leadingZeros, leading-top}
 use lib.Dec.{lit<, ltb}
 use lib.Pow.{pow-pos}
 use lib.IntN.{ℤ, pos, negsuc, _-ℤ_}
@@ -45,7 +46,7 @@ logBelow-is (suc n) d j h k l = elim (decLt d (2 ^ n)) [
   | no b ↦ rw (le-ltb d (2 ^ n) (omega (arith, b))) (omega (arith, pow-lt-inv n (suc j) (omega (arith, b))))
 ]
 
--- ---- by the leading zeros of the half
+-- ---- by the leading zeros of the number with its last bit set
 
 log-small : (q : ℕ) → q / 2 ≡ 0 → logBelow 32 q ≡ 0
 unfolding logBelow
@@ -54,18 +55,18 @@ log-small q e = elim (ℕ-discrete q 0) [
   | no f ↦ let one : q ≡ 1 = omega (arith, e, f) in rw one refl
 ]
 
-pub log-half : (q : ℕ) → q < 4294967296 → (leadingZeros 32 (q / 2) ≤ 32) × (32 - leadingZeros 32 (q / 2) ≡ logBelow 32 q)
-log-half q h = elim (decLt 0 (q / 2)) [
-  | yes p ↦
-      let t = leading-top 32 (q / 2) p (omega arith) in
-      let j = t .0 in
-      let high = pow-lt-inv j 31 (omega (arith, t .2)) in
-      let is = logBelow-is 32 q (suc j) (omega (arith, t .2, two-pow-succ j)) (omega (arith, t .3, two-pow-succ j, two-pow-succ (suc j))) (omega (arith, high)) in
-      (omega (arith, t .1), omega (arith, t .1, is))
-  | no f ↦
-      let e : q / 2 ≡ 0 = omega (arith, f) in
-      (rw (e, leading-of-zero 32) (omega arith), rw (e, leading-of-zero 32) (sym (log-small q e)))
-]
+log-by : (q j : ℕ) → 2 ^ j ≤ q / 2 * 2 + 1 → q / 2 * 2 + 1 < 2 ^ suc j → j < 32 → logBelow 32 q ≡ j
+log-by q zero h k l = log-small q (omega arith)
+log-by q (suc i) h k l = logBelow-is 32 q (suc i) (omega (arith, two-pow-succ i)) (omega arith) l
+
+odd-is : (q : ℕ) → bitOr q 1 ≡ q / 2 * 2 + 1
+odd-is q = or-step q 1 ∙ ap₂ (λ (a b : ℕ). a * 2 + b) (or-zero-r (q / 2)) (max-eq-right {n = q % 2} {m = 1} (omega arith))
+
+pub log-odd : (q : ℕ) → q < 4294967296 → (leadingZeros 32 (bitOr q 1) ≤ 31) × (31 - leadingZeros 32 (bitOr q 1) ≡ logBelow 32 q)
+log-odd q h =
+    rw (odd-is q)
+    (let t = leading-top 32 (q / 2 * 2 + 1) (omega arith) (omega arith) in
+    (omega (arith, t .1), omega (arith, t .1, log-by q (t .0) (t .2) (t .3) (omega (arith, t .1)))))
 
 -- ---- the exponential index
 

@@ -35,5 +35,5 @@ pub(crate) fn power(k: u32) -> u32
 pub(crate) fn log2(q: u32) -> u32
     ensures { λ r. ⌜ r ≡ logBelow 32 q ⌝ }
 {
-    32 - u32::leading_zeros(q / 2)
+    31 - u32::leading_zeros(q | 1)
 }
