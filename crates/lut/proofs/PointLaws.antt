@@ -2,7 +2,7 @@
 --     shift-ud, rise-le, rise-fits, rise-value     a slope's rise
 --     step-fits, step-value                        the step between two entries
 --     Begun, begun, begun-next, filled             the first i entries' points, and the whole table's
-use Prim.Native.Nat.{ℕ, _+_, _*_, _^_, _≤_, _<_}
+use Prim.Native.Nat.{ℕ, _+_, _^_, _≤_, _<_}
 use native.Mathlib.Nat.{pow-le-pow-right, mul-le-mul}
 use native.Mathlib.Decide.{ℕ-discrete}
 use native.Mathlib.Omega.{arith}

@@ -40,8 +40,9 @@ wider low high low2 high2 z f g e =
       le-leZ z high2 (omega (arith, leZ-true high high2 g, h .1)),
     ) refl
 
-all-four : (a b c d : Bool) → a && b && c && d ≡ true → (a ≡ true) × (b ≡ true) × (c ≡ true) × (d ≡ true)
-all-four a b c d e =
+-- four tests that hold
+pub and-four : (a b c d : Bool) → a && b && c && d ≡ true → (a ≡ true) × (b ≡ true) × (c ≡ true) × (d ≡ true)
+and-four a b c d e =
     let f = and-left (a && b && c) d e in
     let g = and-left (a && b) c f in
     (and-left a b g, and-right a b g, and-right (a && b) c f, and-right (a && b && c) d e)
@@ -53,7 +54,7 @@ pub yValid-parts : (s : YSettings) → yValid s ≡ true
     × (shiftValid (s .above .shift) ≡ true)
 unfolding yValid
 yValid-parts s e =
-    let p = all-four (between (negsuc 7) (pos 23) (s .select)) (sameZ (s .end) (s .start +ℤ pos (scaled 256 (s .select)))) (shiftValid (s .below .shift)) (shiftValid (s .above .shift)) e in
+    let p = and-four (between (negsuc 7) (pos 23) (s .select)) (sameZ (s .end) (s .start +ℤ pos (scaled 256 (s .select)))) (shiftValid (s .below .shift)) (shiftValid (s .above .shift)) e in
     (wider (negsuc 7) (pos 23) (negsuc 7) (pos 25) (s .select) refl refl (p .0), p .1, p .2, p .3)
 
 pub soundY : (s : YSettings) → yValid s ≡ true → SFits w32 (s .start) → SFits w32 (s .end) → Sound 256 s
@@ -66,7 +67,7 @@ soundY s e f g =
 module _ (s : XSettings) (e : xValid s ≡ true) where
   parts : (modeValid (s .mode) ≡ true) × (endValid s ≡ true) × (shiftValid (s .below .shift) ≡ true) × (shiftValid (s .above .shift) ≡ true)
   unfolding xValid
-  parts = all-four (modeValid (s .mode)) (endValid s) (shiftValid (s .below .shift)) (shiftValid (s .above .shift)) e
+  parts = and-four (modeValid (s .mode)) (endValid s) (shiftValid (s .below .shift)) (shiftValid (s .above .shift)) e
 
   pub xValid-mode : modeValid (s .mode) ≡ true
   xValid-mode = parts .0
@@ -83,11 +84,14 @@ module _ (s : XSettings) (e : xValid s ≡ true) where
   pub xValid-end : (z : ℤ) → s .mode ≡ Exponential z → sameZ (s .end) (pos 2147483647) ≡ true
   xValid-end z m = endValid-exponential s z m ∙ parts .1
 
+  pub xValid-linear : (z : ℤ) → s .mode ≡ Linear z → sameZ (s .end) (s .start +ℤ pos (scaled 64 z)) ≡ true
+  xValid-linear z m = endValid-linear s z m ∙ parts .1
+
   pub soundX : (z : ℤ) → s .mode ≡ Linear z → SFits w32 (s .start) → SFits w32 (s .end) → Sound 64 (linearX s z)
   soundX z m f g =
       record {
         select-in = wider (negsuc 5) (pos 25) (negsuc 7) (pos 25) z refl refl (modeValid-linear (s .mode) z m ∙ parts .0);
-        end-is = endValid-linear s z m ∙ parts .1;
+        end-is = xValid-linear z m;
         below-in = parts .2;
         above-in = parts .3;
         start-fits = f;

@@ -3,9 +3,9 @@
 --     Valid, valid                            the rules; an accepted run meets them
 --     outputs-left .. counters-kept           outputs and counters of an accepted and of a refused run
 use Prim.Native.Nat.{ℕ, _+_, _≤_}
-use mathlib.Core.Path.{_≡_, sym}
+use mathlib.Core.Path.{_≡_, refl, sym}
 use mathlib.Core.Bool.{Bool, true, _&&_}
-use mathlib.Core.List.{List, [], map}
+use mathlib.Core.List.{List, map}
 use lib.Dec.{leb, eqb}
 use lib.IntN.{ℤ, pos, negsuc, _+ℤ_}
 use lib.ListN.{length}
@@ -14,7 +14,7 @@ use Rattle.refusal.specs.declared.Answer.the-variants.{Accepted, Refused}
 use Rattle.refusal.specs.declared.Refusal.{Refusal}
 use Rattle.refusal.specs.declared.Refusal.the-variants.{TableLength, XSelect, XEnd, YSelect, YEnd, Shift, Counters as CounterLimit, OutputLength}
 use Rattle.refusal.specs.Checks.{inOrder}
-use Rattle.refusal.proofs.CheckLaws.{inOrder-held, inOrder-rest, leaves-done, leaves-before}
+use Rattle.refusal.proofs.CheckLaws.{Held, inOrder-all, requireAt-held, leaves-done, leaves-before}
 use Rattle.refusal.proofs.TestLaws.{and-left, and-right}
 use Rattle.lut.specs.declared.LutSettings.{LutSettings}
 use Rattle.lut.specs.declared.Counters.{Counters}
@@ -23,6 +23,7 @@ use Rattle.lut.specs.Samples.{sampleAnswer, counted}
 use Rattle.lut.specs.Steps.{xValid, yValid}
 use Rattle.lut.specs.Calls.{runAnswer, runOutputs, runCounters}
 use Rattle.lut.specs.Numbers.{between, scaled}
+use Rattle.lut.proofs.SideLaws.{and-four}
 
 -- the rules of 14, 15 and 16
 abbrev pub ySelect : LutSettings → Bool
@@ -42,37 +43,20 @@ pub record Valid (s : LutSettings) (xs ys samples outputs : ℕ) (c : Counters) 
   pub long : outputs ≡ samples
   pub room : counterSum c + samples ≤ 4294967295
 
-four : (a b c d : Bool) → a ≡ true → b ≡ true → c ≡ true → d ≡ true → a && b && c && d ≡ true
-four a b c d e f g h = rw (e, f, g, h)
-
 module _ (s : LutSettings) (xs ys samples outputs : ℕ) (c : Counters) where
   pub valid : inOrder (lutChecks s xs ys samples outputs c) ≡ Accepted → Valid s xs ys samples outputs c
-  unfolding lutChecks xValid yValid
+  unfolding lutChecks Held xValid yValid
   valid e =
-      let to12 = inOrder-rest 0 TableLength (eqb xs 65 && eqb ys 257) _ e in
-      let to13 = inOrder-rest 0 XSelect (modeValid (s .x .mode)) _ to12 in
-      let to14 = inOrder-rest 0 XEnd (endValid (s .x)) _ to13 in
-      let to15 = inOrder-rest 0 YSelect (ySelect s) _ to14 in
-      let to16 = inOrder-rest 0 YEnd (yEnd s) _ to15 in
-      let to18 = inOrder-rest 0 Shift (shifts s) _ to16 in
-      let to17 = inOrder-rest 0 OutputLength (eqb outputs samples) _ to18 in
-      let lengths = inOrder-held 0 TableLength (eqb xs 65 && eqb ys 257) _ e in
-      let xb = shiftValid (s .x .below .shift) in
-      let xa = shiftValid (s .x .above .shift) in
-      let yb = shiftValid (s .y .below .shift) in
-      let ya = shiftValid (s .y .above .shift) in
-      let all = inOrder-held 0 Shift (shifts s) _ to16 in
-      let three = and-left (xb && xa && yb) ya all in
-      let two = and-left (xb && xa) yb three in
+      let h = inOrder-all (lutChecks s xs ys samples outputs c) e in
+      let lengths = requireAt-held 0 TableLength (eqb xs 65 && eqb ys 257) (h .0) in
+      let shift = and-four (shiftValid (s .x .below .shift)) (shiftValid (s .x .above .shift)) (shiftValid (s .y .below .shift)) (shiftValid (s .y .above .shift)) (requireAt-held 0 Shift (shifts s) (h .1 .1 .1 .1 .1 .0)) in
       record {
         x-long = eqb-true xs 65 (and-left (eqb xs 65) (eqb ys 257) lengths);
         y-long = eqb-true ys 257 (and-right (eqb xs 65) (eqb ys 257) lengths);
-        x-valid = four (modeValid (s .x .mode)) (endValid (s .x)) xb xa
-            (inOrder-held 0 XSelect (modeValid (s .x .mode)) _ to12) (inOrder-held 0 XEnd (endValid (s .x)) _ to13) (and-left xb xa two) (and-right xb xa two);
-        y-valid = four (ySelect s) (yEnd s) yb ya
-            (inOrder-held 0 YSelect (ySelect s) _ to14) (inOrder-held 0 YEnd (yEnd s) _ to15) (and-right (xb && xa) yb three) (and-right (xb && xa && yb) ya all);
-        long = eqb-true outputs samples (inOrder-held 0 OutputLength (eqb outputs samples) _ to18);
-        room = leb-true (counterSum c + samples) 4294967295 (inOrder-held 0 CounterLimit (leb (counterSum c + samples) 4294967295) [] to17);
+        x-valid = rw (requireAt-held 0 XSelect (modeValid (s .x .mode)) (h .1 .0), requireAt-held 0 XEnd (endValid (s .x)) (h .1 .1 .0), shift .0, shift .1) refl;
+        y-valid = rw (requireAt-held 0 YSelect (ySelect s) (h .1 .1 .1 .0), requireAt-held 0 YEnd (yEnd s) (h .1 .1 .1 .1 .0), shift .2, shift .3) refl;
+        long = eqb-true outputs samples (requireAt-held 0 OutputLength (eqb outputs samples) (h .1 .1 .1 .1 .1 .1 .0));
+        room = leb-true (counterSum c + samples) 4294967295 (requireAt-held 0 CounterLimit (leb (counterSum c + samples) 4294967295) (h .1 .1 .1 .1 .1 .1 .1 .0));
       }
 
 -- ---- what a run leaves

@@ -1,5 +1,5 @@
 -- The points that the rows of the lookup lead to, as the code writes them. No public promise rests on it. Assumes nothing.
-use Prim.Native.Nat.{ℕ, _+_, _-_, _*_, _^_, _≤_, _<_}
+use Prim.Native.Nat.{ℕ, _+_, _^_, _≤_, _<_}
 use mathlib.Core.Path.{_≡_}
 use mathlib.Core.List.{List}
 use lib.IntN.{ℤ, pos, _-ℤ_, _*ℤ_}

@@ -1,6 +1,6 @@
 -- What the code of the lookup goes by for its samples: each pair of sides has a row of numbers, and each answer is the row's point at the sample, on the
 -- line from a first number that rises by so much. No public promise rests on it. Assumes nothing.
-use Prim.Native.Nat.{ℕ, _+_, _-_, _*_, _/_, _^_, _≤_, _<_}
+use Prim.Native.Nat.{ℕ, _+_, _*_, _/_, _^_, _≤_, _<_}
 use mathlib.Core.Path.{_≡_}
 use mathlib.Core.Bool.{Bool, cond}
 use mathlib.Core.List.{List, [], _∷_}
