@@ -1,2 +1,5 @@
--- The worked cases.
+-- Computed from the definitions.
+--     Worked       the starred cases
+--     Readings     the readings shut out
 pub mod Worked
+pub mod Readings

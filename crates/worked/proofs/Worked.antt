@@ -1,4 +1,4 @@
--- Every worked case of the scope paper holds of the definitions: one table, one statement, by computation. Assumes nothing.
+-- Every starred case of the scope paper holds of the definitions: one table, one statement, by computation. Assumes nothing.
 use mathlib.Core.List.{List, _++_}
 use lib.Dec.{T, lit≤, lit<}
 use Rattle.refusal.specs.Sizes.{sizeValid}
@@ -7,14 +7,13 @@ use Rattle.elements.specs.Bytes.{elementBytes, byteOf}
 use Rattle.elements.specs.Lists.{remadeFrom, remade}
 use Rattle.elements.specs.Values.{valueValid, valueCheck, valueChecksFrom, valueChecks}
 use Rattle.layout.specs.Geometry.{elementCount, rawIndex, surfaces, elementPosition, cubeExtent}
-use Rattle.layout.specs.Rules.{sizesValid, wholeAtoms, stridesValid, layoutChecks, storageChecks, cubeChecks}
+use Rattle.layout.specs.Boxes.{spanInside, boxInside}
+use Rattle.layout.specs.Rules.{sizesValid, wholeAtoms, stridesValid, layoutChecks, boxChecks, storageChecks, cubeChecks}
 use Rattle.layout.specs.Owners.{surfaceOf, rowOf, columnOf, byteInAtom, inAtom, atomOwner, owner}
 use Rattle.layout.specs.Contents.{packedByte, packed}
-use Rattle.layout.specs.Calls.{packAnswer, packBuffer, unpackAnswer}
+use Rattle.layout.specs.Calls.{packAnswer, packBuffer, positionQuantity}
 use Rattle.integers.specs.Saturate.{saturate}
 use Rattle.weights.specs.Geometry as w
-use Rattle.weights.specs.Rules as wr
-use Rattle.weights.specs.Calls as wc
 use Rattle.quantize.specs.Quantize.{lowest, highest, quantizeChecks, quantized, quantizeAnswer}
 use Rattle.lut.specs.Numbers.{between, scaled, shifted, logBelow}
 use Rattle.lut.specs.Tables.{entry, interpolated, linearSide, linearHit, reaches, exponentialSide, exponentialHit, sloped, sideX, hitX, answerX, sideY, answerY}
@@ -22,9 +21,9 @@ use Rattle.lut.specs.Samples.{kindOf, sampleKind, answering, answerOf, sampleAn
 use Rattle.lut.specs.Rules.{modeValid, sameZ, endValid, shiftValid, counterSum, lutChecks}
 use Rattle.lut.specs.Calls.{runAnswer, runOutputs, runCounters}
 use Rattle.camera.specs.Curve.{curveEntry, curveY, curveX, indices, yTable, xTable}
-use Rattle.camera.specs.Ready.{chosen, flat, readySettings}
+use Rattle.camera.specs.Ready.{chosen, flat, readySettings, readyChecks, readyAnswer}
 use Rattle.camera.proofs.RootLaws.{root-is}
-use Rattle.worked.specs.Cases.{Case, allGiven}
+use Rattle.worked.specs.Cases.{Case, sameNumbers, allGiven}
 use Rattle.worked.specs.Cubes.{cubeCases}
 use Rattle.worked.specs.Weights.{weightCases}
 use Rattle.worked.specs.Conversions.{conversionCases}
@@ -36,7 +35,7 @@ unfoldable pub cases : List Case
 cases = cubeCases ++ weightCases ++ conversionCases ++ lookupCases ++ cameraCases
 
 pub worked : T (allGiven cases)
-unfolding cases allGiven cubeCases weightCases conversionCases lookupCases cameraCases tensFrom requireAt inOrder leaves elementBytes byteOf remadeFrom remade valueValid valueCheck valueChecksFrom valueChecks elementCount rawIndex surfaces elementPosition cubeExtent sizeValid sizesValid wholeAtoms stridesValid layoutChecks storageChecks cubeChecks surfaceOf rowOf columnOf byteInAtom inAtom atomOwner owner packedByte packed packAnswer packBuffer unpackAnswer w.groupSize w.elementCount w.groupKernels w.blockChannels w.offsetNumber w.elementNumber w.elementPosition w.surfaceBytes wr.sizesValid wr.weightChecks wc.unpackAnswer saturate lowest highest quantizeChecks quantized result quantizeAnswer between scaled shifted logBelow entry interpolated linearSide linearHit reaches exponentialSide exponentialHit sloped sideX hitX answerX sideY answerY kindOf sampleKind answering answerOf sampleAnswer kindNumber sameKind countOf counted modeValid sameZ endValid shiftValid counterSum lutChecks runAnswer runOutputs runCounters curveEntry curveY curveX indices yTable xTable chosen flat readySettings
+unfolding cases sameNumbers allGiven cubeCases weightCases conversionCases lookupCases cameraCases tensFrom requireAt inOrder leaves result elementBytes byteOf remadeFrom remade valueValid valueCheck valueChecksFrom valueChecks elementCount rawIndex surfaces elementPosition cubeExtent spanInside boxInside sizeValid sizesValid wholeAtoms stridesValid layoutChecks boxChecks storageChecks cubeChecks surfaceOf rowOf columnOf byteInAtom inAtom atomOwner owner packedByte packed packAnswer packBuffer positionQuantity w.groupSize w.elementCount w.groupKernels w.blockChannels w.offsetNumber w.elementNumber w.elementPosition w.surfaceBytes saturate lowest highest quantizeChecks quantized quantizeAnswer between scaled shifted logBelow entry interpolated linearSide linearHit reaches exponentialSide exponentialHit sloped sideX hitX answerX sideY answerY kindOf sampleKind answering answerOf sampleAnswer kindNumber sameKind countOf counted modeValid sameZ endValid shiftValid counterSum lutChecks runAnswer runOutputs runCounters curveEntry curveY curveX indices yTable xTable chosen flat readySettings readyChecks readyAnswer
 worked =
     -- the curve's roots, by their squares
     rw (

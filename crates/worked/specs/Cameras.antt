@@ -1,48 +1,39 @@
--- The worked cases of the camera curve and its ready-made settings (scope paper, "Worked on squared paper"). Assumes nothing.
-use Prim.Native.Nat.{ℕ}
+-- The starred cases of the camera curve and its ready-made settings (scope paper, "Worked on squared paper"). Assumes nothing.
 use mathlib.Core.List.{List, [], _∷_}
-use lib.IntN.{ℤ, pos, negsuc, natAbs}
-use lib.ListN.{getD, replicate}
+use lib.IntN.{ℤ, pos, negsuc}
+use lib.ListN.{replicate}
 use Rattle.lut.specs.declared.Counters.{Counters}
-use Rattle.lut.specs.declared.LutSettings.{LutSettings}
 use Rattle.lut.specs.Calls.{runOutputs, runCounters}
 use Rattle.camera.specs.declared.Choice.the-variants.{Unnamed}
+use Rattle.camera.specs.declared.Ready.{Ready}
+use Rattle.camera.specs.declared.Ready.the-variants.{Setting, Refused as NotGiven}
 use Rattle.camera.specs.Curve.{curveY, xTable, yTable}
-use Rattle.camera.specs.Ready.{readySettings}
+use Rattle.camera.specs.Ready.{readyAnswer}
 use Rattle.worked.specs.Cases.{Case, gives}
-use Rattle.worked.specs.Conversions.{lifted}
-
--- s = 4, every bit unnamed
-abbrev pub ready : LutSettings
-ready = readySettings (pos 4) Unnamed Unnamed Unnamed
+use Rattle.worked.specs.Lookups.{none}
 
 abbrev pub samples : List ℤ
 samples = pos 256 ∷ pos 257 ∷ pos 4097 ∷ negsuc 0 ∷ []
 
-abbrev pub none : Counters
-none = record { x = 0; y = 0; underflow = 0; overflow = 0; priority = 0 }
+-- the outputs of a run on settings that a call gave, over sevens
+abbrev pub outputsOf : Ready → List ℤ
+outputsOf (Setting s) = runOutputs s xTable yTable samples none (replicate 4 (pos 7))
+outputsOf (NotGiven r at) = []
 
--- output i of the run, as 32768 more
-abbrev pub output : ℕ → ℕ
-output i = lifted (getD (runOutputs ready xTable yTable samples none (replicate 4 (pos 7))) i (pos 0))
+-- its counters: X, Y, underflow, overflow, priority
+abbrev pub counts : Counters → List ℤ
+counts c = pos (c .x) ∷ pos (c .y) ∷ pos (c .underflow) ∷ pos (c .overflow) ∷ pos (c .priority) ∷ []
 
-abbrev pub after : Counters
-after = runCounters ready xTable yTable samples 4 none
+abbrev pub countersOf : Ready → List ℤ
+countersOf (Setting s) = counts (runCounters s xTable yTable samples 4 none)
+countersOf (NotGiven r at) = []
 
 unfoldable pub cameraCases : List Case
 cameraCases =
-    -- curve entries 2 and 255
-    gives (natAbs (curveY 2)) 1448
-    ∷ gives (natAbs (curveY 255)) 16351
+    -- curve entries 2 and 255: 1448 and 16351
+    gives (curveY 2 ∷ curveY 255 ∷ []) (pos 1448 ∷ pos 16351 ∷ [])
     -- ready-made s = 4: 256, 257, 4097, -1 give 4096, 4103, 4096, 0
-    ∷ gives (output 0) (lifted (pos 4096))
-    ∷ gives (output 1) (lifted (pos 4103))
-    ∷ gives (output 2) (lifted (pos 4096))
-    ∷ gives (output 3) (lifted (pos 0))
+    ∷ gives (outputsOf (readyAnswer (pos 4) Unnamed Unnamed Unnamed)) (pos 4096 ∷ pos 4103 ∷ pos 4096 ∷ pos 0 ∷ [])
     -- X 0, Y 1, underflow 1, overflow 1, priority 1
-    ∷ gives (after .x) 0
-    ∷ gives (after .y) 1
-    ∷ gives (after .underflow) 1
-    ∷ gives (after .overflow) 1
-    ∷ gives (after .priority) 1
+    ∷ gives (countersOf (readyAnswer (pos 4) Unnamed Unnamed Unnamed)) (pos 0 ∷ pos 1 ∷ pos 1 ∷ pos 1 ∷ pos 1 ∷ [])
     ∷ []

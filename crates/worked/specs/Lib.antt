@@ -4,3 +4,4 @@ pub mod Weights
 pub mod Conversions
 pub mod Lookups
 pub mod Cameras
+pub mod Readings

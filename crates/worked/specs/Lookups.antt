@@ -1,23 +1,17 @@
--- The worked cases of the two-table lookup (scope paper, "Worked on squared paper"), and two readings that the paper shuts out. An answer is given as 32768
--- more, a kind of sample in the order of the counters. Assumes nothing.
+-- The starred cases of the two-table lookup (scope paper, "Worked on squared paper"), each a run. Assumes nothing.
 use Prim.Native.Nat.{ℕ, zero, suc, _+_}
 use mathlib.Core.List.{List, [], _∷_}
-use lib.IntN.{ℤ, pos, negsuc, _+ℤ_, _-ℤ_, _*ℤ_}
-use lib.ListN.{set, replicate}
-use lib.Signed.{quotZ}
-use Rattle.refusal.specs.Codes.{answerCode}
+use lib.IntN.{ℤ, pos, negsuc}
+use lib.ListN.{length, set, replicate}
 use Rattle.lut.specs.declared.XMode.{XMode}
 use Rattle.lut.specs.declared.XMode.the-variants.{Linear, Exponential}
 use Rattle.lut.specs.declared.Slope.{Slope}
 use Rattle.lut.specs.declared.Table.the-variants.{X}
 use Rattle.lut.specs.declared.LutSettings.{LutSettings}
 use Rattle.lut.specs.declared.Counters.{Counters}
-use Rattle.lut.specs.Numbers.{shifted}
-use Rattle.lut.specs.Tables.{entry, answerX}
-use Rattle.lut.specs.Samples.{kindNumber, sampleKind}
-use Rattle.lut.specs.Calls.{runAnswer}
-use Rattle.worked.specs.Cases.{Case, gives}
-use Rattle.worked.specs.Conversions.{lifted}
+use Rattle.lut.specs.Tables.{entry}
+use Rattle.lut.specs.Calls.{runOutputs, runCounters}
+use Rattle.worked.specs.Cases.{Case, gives, number}
 
 -- n entries, ten more each
 unfoldable pub tensFrom : ℕ → ℕ → List ℤ
@@ -50,41 +44,27 @@ linear = settings (Linear (pos 2)) 256
 abbrev pub exponential : ℕ → LutSettings
 exponential offset = settings (Exponential (pos offset)) 2147483647
 
--- what X answers, as 32768 more
-abbrev pub xGives : LutSettings → List ℤ → ℤ → ℕ
-xGives s table x = lifted (answerX (s .x) table x)
+abbrev pub none : Counters
+none = record { x = 0; y = 0; underflow = 0; overflow = 0; priority = 0 }
 
--- 0 X only, 2 underflow
-abbrev pub kind : LutSettings → ℤ → ℕ
-kind s x = kindNumber (sampleKind s x)
+-- a run's outputs, over sevens
+abbrev pub outputs : LutSettings → List ℤ → List ℤ → List ℤ
+outputs s xs samples = runOutputs s xs (replicate 257 (pos 0)) samples none (replicate (length samples) (pos 7))
 
--- the answer to a run without samples, as the paper's number
-abbrev pub settingCode : LutSettings → ℕ
-settingCode s = answerCode (runAnswer s tens (replicate 257 (pos 0)) [] 0 (record { x = 0; y = 0; underflow = 0; overflow = 0; priority = 0 }))
+-- how many samples of a run underflow
+abbrev pub underflows : LutSettings → List ℤ → List ℤ → ℕ
+underflows s xs samples = runCounters s xs (replicate 257 (pos 0)) samples (length samples) none .underflow
 
 unfoldable pub lookupCases : List Case
 lookupCases =
-    -- X linear, start 0, select 2, end 256, entries 10·i: 6 gives 15
-    gives (settingCode linear) 0
-    ∷ gives (xGives linear tens (pos 6)) (lifted (pos 15))
-    -- above with scale 3, shift 1: 258 gives 643; below, same slope: -1 gives -2
-    ∷ gives (xGives linear tens (pos 258)) (lifted (pos 643))
-    ∷ gives (xGives linear tens (negsuc 0)) (lifted (negsuc 1))
-    -- the slope shifted first gives 642
-    ∷ gives (lifted (entry tens 64 +ℤ (pos 258 -ℤ pos 256) *ℤ shifted (pos 3) (pos 1))) (lifted (pos 642))
+    -- X linear, start 0, select 2, end 256, entries 10·i: 6 gives 15; above with scale 3, shift 1: 258 gives 643; below, same slope: -1 gives -2
+    gives (outputs linear tens (pos 6 ∷ pos 258 ∷ negsuc 0 ∷ [])) (pos 15 ∷ pos 643 ∷ negsuc 1 ∷ [])
     -- the same, but entry 2 is 7: 6 gives 8
-    ∷ gives (xGives linear (set tens 2 (pos 7)) (pos 6)) (lifted (pos 8))
-    -- the step rounded toward zero gives 9
-    ∷ gives (lifted (pos 10 +ℤ quotZ ((pos 7 -ℤ pos 10) *ℤ pos 2) (pos 4))) (lifted (pos 9))
+    ∷ gives (outputs linear (set tens 2 (pos 7)) (pos 6 ∷ [])) (pos 8 ∷ [])
     -- X exponential, start 0, offset 0, entries 10·i: 6 gives 25; 0 underflows
-    ∷ gives (settingCode (exponential 0)) 0
-    ∷ gives (xGives (exponential 0) tens (pos 6)) (lifted (pos 25))
-    ∷ gives (kind (exponential 0) (pos 0)) 2
+    ∷ gives (outputs (exponential 0) tens (pos 6 ∷ [])) (pos 25 ∷ [])
+    ∷ number (underflows (exponential 0) tens (pos 0 ∷ [])) 1
     -- offset 3: 7 underflows, 8 gives entry 0
-    ∷ gives (kind (exponential 3) (pos 7)) 2
-    ∷ gives (kind (exponential 3) (pos 8)) 0
-    ∷ gives (xGives (exponential 3) tens (pos 8)) (lifted (pos 0))
-    -- at the end a linear table gives entry 64, an exponential one goes on between its entries
-    ∷ gives (xGives linear tens (pos 256)) (lifted (pos 640))
-    ∷ gives (xGives (exponential 0) tens (pos 2147483647)) (lifted (pos 309))
+    ∷ number (underflows (exponential 3) tens (pos 7 ∷ [])) 1
+    ∷ gives (outputs (exponential 3) tens (pos 8 ∷ [])) (entry tens 0 ∷ [])
     ∷ []
