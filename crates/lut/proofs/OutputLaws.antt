@@ -23,7 +23,7 @@ use Rattle.lut.specs.Calls.{runAnswer, runOutputs}
 use Rattle.lut.specs.Hits.{Enclosed, indexX, indexY, Signed32}
 use Rattle.lut.proofs.NumberLaws.{between-abs, ud-fits}
 use Rattle.lut.proofs.SideLaws.{yValid-parts}
-use Rattle.lut.proofs.Valid.{Valid, valid-run, outputs-left}
+use Rattle.lut.proofs.ValidLaws.{Valid, valid-run, outputs-left}
 use Rattle.lut.proofs.EnclosedLaws.{x-enclosed, y-enclosed, x-agree, y-agree}
 
 signed-fits : (z : ℤ) → Signed32 z → SFits w32 z

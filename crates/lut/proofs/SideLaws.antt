@@ -1,7 +1,8 @@
 -- What the checks leave of each table's settings. Assumes nothing.
---     Sound, soundY, soundX          a linear table's settings that are valid, for Y and for a linear X
---     XFits, YFits                   the settings' numbers are of their types
---     xValid-mode .. xValid-exponential      the X table's settings, by the mode
+--     Sound, soundY, soundX                  a linear table's settings that are valid, for Y and for a linear X
+--     wider, and-four                        a range within another; four tests that hold
+--     yValid-parts                           the Y table's settings
+--     xValid-mode .. xValid-linear           the X table's settings, by the mode
 use Prim.Native.Nat.{ℕ}
 use native.Mathlib.Omega.{arith}
 use mathlib.Core.Path.{_≡_, refl, _∙_}

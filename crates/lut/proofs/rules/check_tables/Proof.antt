@@ -12,7 +12,7 @@ use Rattle.refusal.specs.Checks.{require, inOrder}
 use Rattle.refusal.proofs.CheckLaws.{inOrder-nil, inOrder-next, inOrder-stop}
 use Rattle.lut.specs.Rules.{modeValid, endValid}
 use Rattle.lut.specs.Steps.{tableChecks}
-use Rattle.lut.proofs.Valid.{ySelect, yEnd}
+use Rattle.lut.proofs.ValidLaws.{ySelect, yEnd}
 use Rattle.lut.proofs.rules.check_tables.Statement.{statement}
 use Rattle.lut.proofs.rules.check_tables.Tie as tie
 
