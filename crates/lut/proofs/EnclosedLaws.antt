@@ -3,7 +3,7 @@
 --     linear-enclosed, x-enclosed, y-enclosed     a hit of a linear table with any last entry, of X and of Y
 --     linear-agree, x-agree, y-agree              two tables that agree up to the last entry
 use Prim.Native.Nat.{ℕ, suc, _+_, _-_, _*_, _/_, _%_, _^_, _≤_, _<_, min}
-use native.Mathlib.Nat.{mul-one, div-one, mod-lt, min-eq-left, min-eq-right, two-pow-succ}
+use native.Mathlib.Nat.{mul-one, div-one, mod-lt, min-eq-left, min-eq-right}
 use native.Mathlib.Decide.{ℕ-discrete}
 use native.Mathlib.Omega.{arith}
 use mathlib.Core.Path.{_≡_, refl, sym, ap, subst, _∙_}
@@ -28,10 +28,10 @@ use Rattle.lut.specs.Rules.{sameZ}
 use Rattle.lut.specs.Steps.{xValid}
 use Rattle.lut.specs.Hits.{Amid, Enclosed, linearIndex, exponentialIndex, indexX, indexY}
 use Rattle.lut.proofs.HitLaws.{interpolated-rising, interpolated-falling, interpolated-first, fine, unit, line-le, line-step, line-last, linearHit-is}
-use Rattle.lut.proofs.LogLaws.{log-range, log-le, reaches-pos, index-is}
-use Rattle.lut.proofs.AnswerLaws.{linear-hit, hit-distance, reaches-above}
+use Rattle.lut.proofs.LogLaws.{hit-range, hit-index}
+use Rattle.lut.proofs.AnswerLaws.{linear-hit, hit-distance}
 use Rattle.lut.proofs.SideLaws.{xValid-offset, xValid-linear}
-use Rattle.lut.proofs.ServeLaws.{not-below}
+use Rattle.lut.proofs.ServeLaws.{hit-far}
 
 -- ---- an interpolated number
 
@@ -140,13 +140,8 @@ module _ (offset : ℤ) (valid : between (negsuc 31) (pos 31) offset ≡ true) (
   abbrev p : ℕ
   p = logBelow 32 d
 
-  range : (2 ^ p ≤ d) × (d < 2 * 2 ^ p)
-  range = log-range 32 d (reaches-pos offset d hit) (omega arith)
-
   index-lt : natAbs (pos p -ℤ offset) < 64
-  index-lt =
-      let i = index-is offset d p valid hit (omega (arith, range .1, two-pow-succ p)) (log-le 31 d) in
-      rw (i .1) (omega (arith, i .2))
+  index-lt = let i = hit-index offset valid d small hit in rw (i .1) (omega (arith, i .2))
 
   exponentialHit-enclosed : (table : List ℤ) → Enclosed table 64 (exponentialIndex offset d) (exponentialHit table offset d)
   unfolding exponentialIndex exponentialHit
@@ -154,7 +149,7 @@ module _ (offset : ℤ) (valid : between (negsuc 31) (pos 31) offset ≡ true) (
       let i = natAbs (pos p -ℤ offset) in
       record {
         index-lt = index-lt;
-        amid = interpolated-amid table i (d - 2 ^ p) (2 ^ p) (leZ (entry table i) (entry table (i + 1))) (pow-pos p) (omega (arith, range .0, range .1)) refl;
+        amid = interpolated-amid table i (d - 2 ^ p) (2 ^ p) (leZ (entry table i) (entry table (i + 1))) (pow-pos p) (omega (arith, hit-range offset valid d small hit)) refl;
       }
 
   exponentialHit-agree : (a b : List ℤ) → ((i : ℕ) → i ≤ 64 → entry a i ≡ entry b i) → exponentialHit a offset d ≡ exponentialHit b offset d
@@ -175,10 +170,6 @@ unfolding answerY
 y-agree s a b x e agree = linear-agree s 256 e x a b agree
 
 module _ (s : XSettings) (valid : xValid s ≡ true) (x : ℤ) (fs : SFits w32 (s .start)) (fx : SFits w32 x) where
-  -- how far an exponential hit lies above the start
-  far : (z : ℤ) → reaches z (x -ℤ s .start) ≡ true → (d : ℕ) × (x -ℤ s .start ≡ pos d) × (d ≤ 4294967295)
-  far z e = not-below fx fs (reaches-above z x (s .start) e)
-
   module _ (table : List ℤ) where
     abbrev Held : Type 0
     Held = sideX s x ≡ Hit → Enclosed table 64 (indexX s x) (answerX s table x)
@@ -186,8 +177,8 @@ module _ (s : XSettings) (valid : xValid s ≡ true) (x : ℤ) (fs : SFits w32 (
     exponential-by : (z : ℤ) → s .mode ≡ Exponential z → (t : Bool) → reaches z (x -ℤ s .start) ≡ t → Held
     unfolding sideX hitX answerX indexX exponentialSide
     exponential-by z m true e =
-        let d = far z e in
-        rw (m, e, d .1) (λ side. exponentialHit-enclosed z (xValid-offset s valid z m) (d .0) (d .2) (subst (λ (v : ℤ). reaches z v ≡ true) (d .1) e) table)
+        let d = hit-far fx fs z e in
+        rw (m, e, d .1) (λ side. exponentialHit-enclosed z (xValid-offset s valid z m) (d .0) (d .2) (d .3) table)
     exponential-by z m false e = rw (m, e) (λ side. absurd (below-hit side))
 
     enclosed-by : (mode : XMode) → s .mode ≡ mode → Held
@@ -202,8 +193,8 @@ module _ (s : XSettings) (valid : xValid s ≡ true) (x : ℤ) (fs : SFits w32 (
     exponential-agree : (z : ℤ) → s .mode ≡ Exponential z → (t : Bool) → reaches z (x -ℤ s .start) ≡ t → answerX s a x ≡ answerX s b x
     unfolding sideX hitX answerX exponentialSide
     exponential-agree z m true e =
-        let d = far z e in
-        rw (m, e, d .1) (exponentialHit-agree z (xValid-offset s valid z m) (d .0) (d .2) (subst (λ (v : ℤ). reaches z v ≡ true) (d .1) e) a b agree)
+        let d = hit-far fx fs z e in
+        rw (m, e, d .1) (exponentialHit-agree z (xValid-offset s valid z m) (d .0) (d .2) (d .3) a b agree)
     exponential-agree z m false e = rw (m, e) (ap (λ (v : ℤ). sloped v (x -ℤ s .start) (s .below)) (agree 0 (omega arith)))
 
     mode-agree : (mode : XMode) → s .mode ≡ mode → answerX s a x ≡ answerX s b x

@@ -1,6 +1,6 @@
 -- The logarithm, and the index of an exponential hit. Assumes nothing.
 --     log-range, log-le, log-odd           its range; by the leading zeros of the number with its last bit set
---     reaches-pos, index-is                a hit's distance is above 0; its index is of 0..63
+--     hit-range, hit-index                 the power and the index of a hit; the index is of 0..63
 use Prim.Native.Nat.{ℕ, zero, suc, _+_, _-_, _*_, _/_, _%_, _^_, _≤_, _<_}
 use native.Mathlib.Nat.{pow-le-pow-right, two-pow-succ, max-eq-right}
 use native.Mathlib.Decide.{ℕ-discrete, decLt}
@@ -18,7 +18,7 @@ use Rattle.lut.specs.Tables.{reaches}
 use Rattle.lut.specs.Numbers.{between, logBelow}
 use Rattle.lut.proofs.NumberLaws.{between-ud}
 
-pub log-range : (n d : ℕ) → 0 < d → d < 2 ^ n → (2 ^ logBelow n d ≤ d) × (d < 2 * 2 ^ logBelow n d)
+log-range : (n d : ℕ) → 0 < d → d < 2 ^ n → (2 ^ logBelow n d ≤ d) × (d < 2 * 2 ^ logBelow n d)
 unfolding logBelow
 log-range zero d h k = absurd (omega arith)
 log-range (suc n) d h k = elim (decLt d (2 ^ n)) [
@@ -70,13 +70,13 @@ log-odd q h =
 
 -- ---- the exponential index
 
-pub reaches-pos : (offset : ℤ) (d : ℕ) → reaches offset (pos d) ≡ true → 0 < d
+reaches-pos : (offset : ℤ) (d : ℕ) → reaches offset (pos d) ≡ true → 0 < d
 unfolding reaches
 reaches-pos (pos k) d e = omega (arith, pow-pos k, leZ-true (pos (2 ^ k)) (pos d) e)
 reaches-pos (negsuc k) d e = omega (arith, leZ-true (pos 1) (pos d) e)
 
 -- the index, of 0..63
-pub index-is : (offset : ℤ) (d j : ℕ) → between (negsuc 31) (pos 31) offset ≡ true → reaches offset (pos d) ≡ true → d < 2 ^ suc j → j ≤ 31
+index-is : (offset : ℤ) (d j : ℕ) → between (negsuc 31) (pos 31) offset ≡ true → reaches offset (pos d) ≡ true → d < 2 ^ suc j → j ≤ 31
     → (n : ℕ) × (pos j -ℤ offset ≡ pos n) × (n ≤ 63)
 unfolding reaches
 index-is (pos k) d j b e l h =
@@ -84,3 +84,14 @@ index-is (pos k) d j b e l h =
     (j - k, ud-inj (pos j -ℤ pos k) (pos (j - k)) (omega (arith, low, take-ud (pos j) (pos k))), omega arith)
 index-is (negsuc k) d j b e l h =
     (j + suc k, ud-inj (pos j -ℤ negsuc k) (pos (j + suc k)) (omega (arith, take-ud (pos j) (negsuc k))), omega (arith, between-ud (negsuc 31) (pos 31) (negsuc k) b .0))
+
+-- the power and the index of a hit
+module _ (offset : ℤ) (valid : between (negsuc 31) (pos 31) offset ≡ true) (d : ℕ) (small : d ≤ 4294967295) (hit : reaches offset (pos d) ≡ true) where
+  abbrev p : ℕ
+  p = logBelow 32 d
+
+  pub hit-range : (2 ^ p ≤ d) × (d < 2 * 2 ^ p)
+  hit-range = log-range 32 d (reaches-pos offset d hit) (omega arith)
+
+  pub hit-index : (n : ℕ) × (pos p -ℤ offset ≡ pos n) × (n ≤ 63)
+  hit-index = index-is offset d p valid hit (omega (arith, hit-range .1, two-pow-succ p)) (log-le 31 d)
