@@ -37,9 +37,9 @@ listed xs i = getD xs i (pos 0)
 unfoldable pub columnUnit : ℕ → (ℕ → ℤ) → (from plane i j : ℕ) → ℕ
 columnUnit e source from plane i j = columnByte e source from plane i (2 * j) + 256 * columnByte e source from plane i (2 * j + 1)
 
--- byte b of column i of a tile of four units a column
-unfoldable pub tileByte : List ℕ → (i b : ℕ) → ℕ
-tileByte tile i b = getD tile (4 * i + b / 2) 0 / 256 ^ (b % 2) % 256
+-- byte b of column i of a tile of so many units a column
+unfoldable pub tileByte : ℕ → List ℕ → (i b : ℕ) → ℕ
+tileByte units tile i b = getD tile (units * i + b / 2) 0 / 256 ^ (b % 2) % 256
 
 -- ---- one write after another
 
@@ -48,10 +48,9 @@ unfoldable pub bytesSet : {A : Type 0} → (ℕ → A) → (k p : ℕ) → List 
 bytesSet f zero p buf = buf
 bytesSet f (suc k) p buf = set (bytesSet f k p buf) (p + k) (f k)
 
--- four units from p on
-abbrev pub unitsSet : (a b c d p : ℕ) → List ℕ → List ℕ
-unitsSet a b c d p buf =
-    set (set (set (set (set (set (set (set buf p (a % 256)) (p + 1) (a / 256 % 256)) (p + 2) (b % 256)) (p + 3) (b / 256 % 256)) (p + 4) (c % 256)) (p + 5) (c / 256 % 256)) (p + 6) (d % 256)) (p + 7) (d / 256 % 256)
+-- two units from p on
+abbrev pub twoSet : (a b p : ℕ) → List ℕ → List ℕ
+twoSet a b p buf = set (set (set (set buf p (a % 256)) (p + 1) (a / 256 % 256)) (p + 2) (b % 256)) (p + 3) (b / 256 % 256)
 
 -- ---- reading: the elements are the columns, of n elements each, `plane` apart, and the bytes the source
 

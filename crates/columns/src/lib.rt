@@ -5,7 +5,7 @@ ghost use mathlib.Core.Path.{_≡_};
 ghost use Prim.Native.Nat.{ℕ, _+_, _-_, _*_, _/_, _%_, _≤_, _<_};
 ghost use lib.ListN.{length, getD};
 ghost use Rattle.elements.specs.Bytes.{elementAt};
-ghost use Rattle.columns.specs.Columns.{columns, columnByte, columnUnit, tileByte, listed, unitsSet, tileSet, rowsWritten};
+ghost use Rattle.columns.specs.Columns.{columns, columnByte, columnUnit, tileByte, listed, twoSet, tileSet, rowsWritten};
 ghost use Rattle.columns.specs.Blocks.{fitting, blockWritten, blockRead, cleared};
 ghost use Rattle.columns.specs.Columns.{bytesSet, columnElement, rowsRead, UnitIs, unitElement, unitRow, tileElement};
 
@@ -40,7 +40,7 @@ fn join(e: u32, elements: &[i16], from: usize, plane: usize, count: usize, tile:
     ensures kept { λ _. ⌜ length (now (tile .exit)) ≡ 256 ⌝ }
     ensures joined { λ _. ⌜ ((m : ℕ) → m < 4 * count → getD (now (tile .exit)) m 0 ≡ columnUnit e (listed (now (elements .entry))) from plane (m / 4) (m % 4)) ⌝ }
 {
-    let step = (3 - e) as usize * plane;
+    let step = if e == 1 { 2 * plane } else { plane };
     let mut i: usize = 0;
     while i < count {
         let at = from + i;
@@ -53,25 +53,47 @@ fn join(e: u32, elements: &[i16], from: usize, plane: usize, count: usize, tile:
     }
 }
 
-// Four units written, low byte first.
-fn write_units(a: u16, b: u16, c: u16, d: u16, buffer: &mut [u8], p: usize)
-    requires { ⌜ p + 8 ≤ length (now buffer) ⌝ }
-    ensures { λ _. ⌜ now (buffer .exit) ≡ unitsSet a b c d p (now (buffer .entry)) ⌝ }
+// The first two units of each column.
+fn join_half(
+    e: u32,
+    elements: &[i16],
+    from: usize,
+    plane: usize,
+    count: usize,
+    tile: &mut [u16; 256],
+)
+    requires { ⌜ (1 ≤ e) × (e ≤ 2) × (count ≤ 64) × (length (now tile) ≡ 256) ⌝ }
+    requires { ⌜ from + 2 * ((3 - e) * plane) + count ≤ length (now elements) + plane ⌝ }
+    ensures kept { λ _. ⌜ length (now (tile .exit)) ≡ 256 ⌝ }
+    ensures joined { λ _. ⌜ ((m : ℕ) → m < 2 * count → getD (now (tile .exit)) m 0 ≡ columnUnit e (listed (now (elements .entry))) from plane (m / 2) (m % 2)) ⌝ }
+{
+    let step = if e == 1 { 2 * plane } else { plane };
+    let mut i: usize = 0;
+    while i < count {
+        let at = from + i;
+        let a = unit(e, elements, at, plane);
+        let b = unit(e, elements, at + step, plane);
+        tile[2 * i] = a;
+        tile[2 * i + 1] = b;
+        i += 1;
+    }
+}
+
+// Two units written, low byte first.
+fn write_two(a: u16, b: u16, buffer: &mut [u8], p: usize)
+    requires { ⌜ p + 4 ≤ length (now buffer) ⌝ }
+    ensures { λ _. ⌜ now (buffer .exit) ≡ twoSet a b p (now (buffer .entry)) ⌝ }
 {
     buffer[p] = (a % 256) as u8;
     buffer[p + 1] = (a / 256) as u8;
     buffer[p + 2] = (b % 256) as u8;
     buffer[p + 3] = (b / 256) as u8;
-    buffer[p + 4] = (c % 256) as u8;
-    buffer[p + 5] = (c / 256) as u8;
-    buffer[p + 6] = (d % 256) as u8;
-    buffer[p + 7] = (d / 256) as u8;
 }
 
 // The units of a tile, four in each column.
 fn write_tile(tile: &[u16; 256], count: usize, buffer: &mut [u8], at: usize, stride: usize)
     requires { ⌜ (count ≤ 64) × (8 ≤ stride) × (at + stride * count + 8 ≤ length (now buffer) + stride) ⌝ }
-    ensures { λ _. ⌜ now (buffer .exit) ≡ columns (tileByte (now (tile .entry))) 8 count at stride (now (buffer .entry)) ⌝ }
+    ensures { λ _. ⌜ now (buffer .exit) ≡ columns (tileByte 4 (now (tile .entry))) 8 count at stride (now (buffer .entry)) ⌝ }
 {
     let mut i: usize = 0;
     while i < count {
@@ -79,7 +101,23 @@ fn write_tile(tile: &[u16; 256], count: usize, buffer: &mut [u8], at: usize, str
         let b = tile[4 * i + 1];
         let c = tile[4 * i + 2];
         let d = tile[4 * i + 3];
-        write_units(a, b, c, d, buffer, at + stride * i);
+        let p = at + stride * i;
+        write_two(a, b, buffer, p);
+        write_two(c, d, buffer, p + 4);
+        i += 1;
+    }
+}
+
+// The units of a tile, two in each column.
+fn write_half(tile: &[u16; 256], count: usize, buffer: &mut [u8], at: usize, stride: usize)
+    requires { ⌜ (count ≤ 64) × (4 ≤ stride) × (at + stride * count + 4 ≤ length (now buffer) + stride) ⌝ }
+    ensures { λ _. ⌜ now (buffer .exit) ≡ columns (tileByte 2 (now (tile .entry))) 4 count at stride (now (buffer .entry)) ⌝ }
+{
+    let mut i: usize = 0;
+    while i < count {
+        let a = tile[2 * i];
+        let b = tile[2 * i + 1];
+        write_two(a, b, buffer, at + stride * i);
         i += 1;
     }
 }
@@ -130,7 +168,7 @@ fn write_byte(
     }
 }
 
-// The next rows: as many as fill eight bytes of a column, or else two, or one; gives how many.
+// The next rows: as many as fill eight bytes of a column, or else four, or two, or one; gives how many.
 fn write_some(
     e: u32,
     elements: &[i16],
@@ -154,6 +192,11 @@ fn write_some(
         join(e, elements, from, plane, count, tile);
         write_tile(tile, count, buffer, at, stride);
         return 4 * (3 - e);
+    }
+    if 2 * (3 - e) <= rows {
+        join_half(e, elements, from, plane, count, tile);
+        write_half(tile, count, buffer, at, stride);
+        return 2 * (3 - e);
     }
     if 3 - e <= rows {
         write_unit(e, elements, from, plane, count, buffer, at, stride);
@@ -309,7 +352,7 @@ fn split(e: u32, tile: &[u16; 256], count: usize, elements: &mut [i16], from: us
     requires { ⌜ from + 4 * ((3 - e) * plane) + count ≤ length (now elements) + plane ⌝ }
     ensures { λ _. ⌜ now (elements .exit) ≡ columns (tileElement e (now (tile .entry))) count (4 * (3 - e)) from plane (now (elements .entry)) ⌝ }
 {
-    let step = (3 - e) as usize * plane;
+    let step = if e == 1 { 2 * plane } else { plane };
     split_unit(e, tile, 0, count, elements, from, plane);
     split_unit(e, tile, 1, count, elements, from + step, plane);
     split_unit(e, tile, 2, count, elements, from + 2 * step, plane);
@@ -398,6 +441,14 @@ fn write_strips(
     requires { ⌜ (1 ≤ stride) × (rows * e ≤ stride) × (at + stride * count + rows * e ≤ length (now buffer) + stride) ⌝ }
     ensures { λ _. ⌜ now (buffer .exit) ≡ rowsWritten e (listed (now (elements .entry))) from plane rows count at stride (now (buffer .entry)) ⌝ }
 {
+    if stride == 1 {
+        write_byte(elements, from, count, buffer, at, 1);
+        return;
+    }
+    if (stride == 2) & (e == 2) {
+        write_unit(2, elements, from, plane, count, buffer, at, 2);
+        return;
+    }
     let mut source = from;
     let mut done: usize = 0;
     while 64 < count - done {
@@ -442,9 +493,17 @@ fn read_strips(
 )
     requires { ⌜ (1 ≤ e) × (e ≤ 2) × (1 ≤ rows) × (1 ≤ count) × (rows * e ≤ 4294967295) × (count ≤ plane) ⌝ }
     requires { ⌜ from + rows * plane + count ≤ length (now elements) + plane ⌝ }
-    requires { ⌜ at + stride * count + rows * e ≤ length (now buffer) + stride ⌝ }
+    requires { ⌜ (rows * e ≤ stride) × (at + stride * count + rows * e ≤ length (now buffer) + stride) ⌝ }
     ensures { λ _. ⌜ now (elements .exit) ≡ rowsRead e (now (buffer .entry)) at stride rows count from plane (now (elements .entry)) ⌝ }
 {
+    if stride == 1 {
+        read_row(1, buffer, at, 1, count, elements, from);
+        return;
+    }
+    if (stride == 2) & (e == 2) {
+        read_row(2, buffer, at, 2, count, elements, from);
+        return;
+    }
     let mut done: usize = 0;
     while 64 < count - done {
         read_rows(

@@ -35,7 +35,7 @@ cast-read-strips-3 c = search needs
 read-strips-requires : tie.Need-read-strips-requires
 read-strips-requires c κs = let w = fit (c .before .before .before .before) in
     let f = w .0 in
-    ((f .some, f .small, f .rows-some, f .count-some, omega (arith, f .deep, c .struct-known4 .given), w .1), (rows-end f, columns-end f))
+    ((f .some, f .small, f .rows-some, f .count-some, omega (arith, f .deep, c .struct-known4 .given), w .1), (rows-end f, (f .deep, columns-end f)))
 
 same-length : tie.Need-same-length
 same-length c = search needs

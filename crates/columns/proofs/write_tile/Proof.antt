@@ -2,15 +2,16 @@
 use Prim.Native.Nat.{ℕ, _+_, _-_, _*_, _≤_}
 use native.Mathlib.Omega.{arith}
 use mathlib.Core.Path.{_≡_, refl, ap, _∙_}
-use lib.ListN.{length}
-use Rattle.columns.specs.Columns.{columns, tileByte}
+use mathlib.Core.List.{List}
+use lib.ListN.{length, getD}
+use Rattle.columns.specs.Columns.{columns, tileByte, twoSet}
 use Rattle.columns.proofs.ColumnLaws.{columns-none, columns-length}
 use Rattle.columns.proofs.UnitLaws.{columns-step, tile-bytes, column-room}
 use Rattle.columns.proofs.write_tile.Statement.{statement}
 use Rattle.columns.proofs.write_tile.Tie as tie
 
 abbrev Inv-loop : tie.InvT-loop
-Inv-loop tile count buffer₀ at stride i₀ buffer i = (i ≤ count) × (buffer ≡ columns (tileByte tile) 8 i at stride buffer₀)
+Inv-loop tile count buffer₀ at stride i₀ buffer i = (i ≤ count) × (buffer ≡ columns (tileByte 4 tile) 8 i at stride buffer₀)
 
 abbrev μ-loop : tie.MeasureT-loop
 μ-loop tile count buffer₀ at stride i₀ buffer i = count - i
@@ -19,7 +20,7 @@ abbrev μ-loop : tie.MeasureT-loop
 long : (c : tie.At-loop Inv-loop μ-loop) → length (c .loop .buffer) ≡ length (c .before .before .args .buffer .now)
 long c =
     let a = c .before .before .args in
-    ap length (c .loop .inv .1) ∙ columns-length (tileByte (a .tile .now)) 8 (c .loop .i) (a .at) (a .stride) (a .buffer .now)
+    ap length (c .loop .inv .1) ∙ columns-length (tileByte 4 (a .tile .now)) 8 (c .loop .i) (a .at) (a .stride) (a .buffer .now)
 
 -- column i is in the buffer
 room : (c : tie.In-loop Inv-loop μ-loop) → let a = c .before .before .before .args in a .at + a .stride * c .before .loop .i + 8 ≤ length (a .buffer .now)
@@ -28,7 +29,7 @@ room c =
     column-room (a .at) (a .stride) (c .before .loop .i) (a .count) 8 (length (a .buffer .now)) (omega arith) (c .before .before .before .pre .2)
 
 loop-holds : tie.Need-loop-holds Inv-loop μ-loop
-loop-holds c = let a = c .before .args in (omega arith, columns-none 0 (tileByte (a .tile .now)) 8 (a .at) (a .stride) (a .buffer .now) (c .before .pre .1))
+loop-holds c = let a = c .before .args in (omega arith, columns-none 0 (tileByte 4 (a .tile .now)) 8 (a .at) (a .stride) (a .buffer .now) (c .before .pre .1))
 
 mul-a : tie.Need-mul-a Inv-loop μ-loop
 mul-a c = omega arith
@@ -75,14 +76,21 @@ mul-d-2 c = omega arith
 element-copy-out-d : tie.Need-element-copy-out-d Inv-loop μ-loop
 element-copy-out-d c = omega arith
 
-mul-write-units : tie.Need-mul-write-units Inv-loop μ-loop
-mul-write-units c = omega (arith, room (c .before .before .before .before .before))
+mul-p : tie.Need-mul-p Inv-loop μ-loop
+mul-p c = omega (arith, room (c .before .before .before .before))
 
-add-write-units : tie.Need-add-write-units Inv-loop μ-loop
-add-write-units c = omega (arith, room (c .before .before .before .before .before))
+add-p : tie.Need-add-p Inv-loop μ-loop
+add-p c = omega (arith, room (c .before .before .before .before))
 
-write-units-requires : tie.Need-write-units-requires Inv-loop μ-loop
-write-units-requires c κs = omega (arith, room (c .before .before .before .before .before), long (c .before .before .before .before .before .before))
+write-two-requires : tie.Need-write-two-requires Inv-loop μ-loop
+write-two-requires c κs = let i = c .before .before .before .before .before in omega (arith, room i, long (i .before))
+
+add-write-two : tie.Need-add-write-two Inv-loop μ-loop
+add-write-two c = let i = c .before .before .before .before .before .before .before .before .before in omega (arith, room i)
+
+write-two-requires-2 : tie.Need-write-two-requires-2 Inv-loop μ-loop
+write-two-requires-2 c κs = let i = c .before .before .before .before .before .before .before .before .before in
+    omega (arith, room i, long (i .before), c .before .before .buffer .given)
 
 add-i : tie.Need-add-i Inv-loop μ-loop
 add-i c = omega arith
@@ -91,15 +99,19 @@ loop-less : tie.Need-loop-less Inv-loop μ-loop
 loop-less c = omega arith
 
 loop-again : tie.Need-loop-again Inv-loop μ-loop
-loop-again c = let f = c .before .before in
-    let d = f .before .before in
-    let l = d .before .before .before .before .before in
+loop-again c = let f2 = c .before .before in
+    let f1 = f2 .before .before .before .before in
+    let l = f1 .before .before .before .before .before .before .before in
     let s = l .before .before in
     let a = s .args in
-    let i = l .loop .i in (
+    let t = a .tile .now in
+    let i = l .loop .i in
+    let p = a .at + a .stride * i in (
       omega arith,
-      columns-step 0 (tileByte (a .tile .now)) 8 i (a .at) (a .stride) (a .buffer .now) (s .pre .1) (l .loop .inv .1)
-          (f .write-units .ensures ∙ tile-bytes (a .tile .now) i (a .at + a .stride * i) (l .loop .buffer) _ _ _ _ refl refl refl refl),
+      columns-step 0 (tileByte 4 t) 8 i (a .at) (a .stride) (a .buffer .now) (s .pre .1) (l .loop .inv .1)
+          (f2 .write-two2 .ensures
+          ∙ ap (λ (b : List ℕ). twoSet (getD t (4 * i + 2) 0) (getD t (4 * i + 3) 0) (p + 4) b) (f1 .write-two .ensures)
+          ∙ tile-bytes t i p (l .loop .buffer) _ _ _ _ refl refl refl refl),
     )
 
 same-length : tie.Need-same-length Inv-loop μ-loop
@@ -109,7 +121,7 @@ returns : tie.Need-returns Inv-loop μ-loop
 returns c = let l = c .before in
     let a = l .before .before .args in
     let all : l .loop .i ≡ a .count = omega arith in
-    l .loop .inv .1 ∙ ap (λ (n : ℕ). columns (tileByte (a .tile .now)) 8 n (a .at) (a .stride) (a .buffer .now)) all
+    l .loop .inv .1 ∙ ap (λ (n : ℕ). columns (tileByte 4 (a .tile .now)) 8 n (a .at) (a .stride) (a .buffer .now)) all
 
 pub write-tile-spec : {M : Type 1} → statement M
 write-tile-spec =
@@ -133,9 +145,11 @@ write-tile-spec =
     add-d
     mul-d-2
     element-copy-out-d
-    mul-write-units
-    add-write-units
-    write-units-requires
+    mul-p
+    add-p
+    write-two-requires
+    add-write-two
+    write-two-requires-2
     add-i
     loop-less
     loop-again
