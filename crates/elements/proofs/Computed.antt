@@ -18,6 +18,8 @@ pub record Computed : Type 0 where
   pub byte : elementAt 1 (254 ∷ 255 ∷ []) 0 ≡ negsuc 1
   pub one : elementBytes 0 ≡ 1
   pub two : elementBytes 2 ≡ 2
+  -- 3 is no precision's code
+  pub unknown : elementBytes 3 ≡ 2
   -- int8 takes −128..127, int16 every element; the least index at fault is told
   pub least : valueValid 0 (negsuc 127) ≡ true
   pub below : valueValid 0 (negsuc 128) ≡ false
@@ -37,6 +39,7 @@ computed =
       byte = refl;
       one = refl;
       two = refl;
+      unknown = refl;
       least = refl;
       below = refl;
       greatest = refl;

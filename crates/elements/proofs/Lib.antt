@@ -1,4 +1,4 @@
--- Laws of the definitions of specs/, for the crates above; the last four serve this crate alone.
+-- Laws of the definitions of specs/, for the crates above; the last three serve this crate alone.
 --     Computed    bytes and values, computed
 --     ListLaws    a list made anew by position: its length and its entries
 --     TabulateLaws   a list given by position: its length and its entries
@@ -7,7 +7,6 @@
 --     ValueLaws   which elements a precision takes, and what a list of such checks answers
 --     WordLaws    the unsigned number that bytes are
 --     SignLaws    signed numbers as the code computes them: the bits of a 16-bit number, and back
---     OrderLaws   the order of signed numbers as a test, and the bounds of the lesser and the greater of two
 --     StepLaws    the code's tests of an element, and a pass over the first elements
 pub mod Computed
 pub mod ListLaws
@@ -17,5 +16,4 @@ pub mod ByteLaws
 pub mod ValueLaws
 pub mod WordLaws
 pub mod SignLaws
-pub mod OrderLaws
 pub mod StepLaws

@@ -1,24 +1,28 @@
--- The code's tests of one element, and what a pass over the first elements found (specs/Scan.antt). By cases on the sign, and by induction
+-- The code's tests of one element, and what a pass over the first elements found (specs/Steps.antt). By cases on the sign, and by induction
 -- on how many elements have been passed. Assumes nothing.
 --     read-back                                a 16-bit number as the code reads it
 --     valid-low, valid-high, valid-between     an element below -128, above 127, in between
---     inRange, allValid-none, allValid-next    the range that the code keeps: no element yet; one element more
+--     raised-valid, or-below                   an element 128 higher, and the bits of two numbers, below 256
+--     allValid-none, allValid-next             no element yet; one element more
 --     allValid-at, allValid-all                a pass that found no fault took each element, and back
-use Prim.Native.Nat.{ℕ, zero, suc, _+_, _^_, _<_}
+use Prim.Native.Nat.{ℕ, zero, suc, _+_, _*_, _/_, _%_, _^_, _<_, _≤_}
 use mathlib.Core.Path.{_≡_, refl, sym, ap, _∙_}
 use mathlib.Core.Bool.{Bool, true, false, _&&_}
 use mathlib.Core.List.{List}
 use native.Mathlib.Nat.{not-suc-le-zero}
-use native.Mathlib.Decide.{ℕ-discrete}
+use native.Mathlib.Decide.{decLt, ℕ-discrete}
 use native.Mathlib.Numerals.{add-one}
 use native.Mathlib.Omega.{arith}
 use lib.IntN.{ℤ, pos, negsuc}
 use lib.ListN.{getD}
-use lib.Signed.{mag, ltZ, leZ}
-use borrow.Author.Tests.{ltb-true, ltb-false, le-leb, lt-leb}
+use lib.Bits.{bitOr, or-lt, or-add-and, and-le-l, and-le-r}
+use lib.Dec.{ltb}
+use lib.Signed.{mag, ltZ}
+use borrow.Author.Tests.{ltb-true, ltb-false, lt-ltb, le-ltb, le-leb, lt-leb}
 use mir.Syntax.{w16}
 use mir.Val.{toZ, ofZ}
 use mir.Facts.{toZ-ofZ}
+use Rattle.elements.specs.Bytes.{byteOf}
 use Rattle.elements.specs.Values.{valueValid}
 use Rattle.elements.specs.Steps.{allValid}
 use Rattle.elements.proofs.ValueLaws.{and-true, Valid}
@@ -54,31 +58,47 @@ module _ (z : ℤ) (m : mag z < 2 ^ 15) where
   pub valid-between : ltZ (toZ w16 (ofZ w16 z)) (negsuc 127) ≡ false → ltZ (pos 127) (toZ w16 (ofZ w16 z)) ≡ false → valueValid 0 z ≡ true
   valid-between e f = no-fault z (sym (ap (λ (v : ℤ). ltZ v (negsuc 127)) read-back) ∙ e) (sym (ap (λ (v : ℤ). ltZ (pos 127) v) read-back) ∙ f)
 
+-- the bits of an element 128 higher, by its word w
+pub raised-valid : (z : ℤ) (w : ℕ) → mag z < 32768 → w ≡ byteOf z 0 + 256 * byteOf z 1 → ltb ((w + 128) % 65536) 256 ≡ valueValid 0 z
+unfolding byteOf valueValid
+raised-valid (pos n) w m e = elim (decLt n 128) [
+  | yes h ↦ rw (lt-ltb ((w + 128) % 65536) 256 (omega (arith, e)), le-leb n 127 (omega arith))
+  | no h ↦ rw (le-ltb ((w + 128) % 65536) 256 (omega (arith, e)), lt-leb n 127 (omega arith))
+]
+raised-valid (negsuc n) w m e = elim (decLt n 128) [
+  | yes h ↦ rw (lt-ltb ((w + 128) % 65536) 256 (omega (arith, e)), le-leb n 127 (omega arith))
+  | no h ↦ rw (le-ltb ((w + 128) % 65536) 256 (omega (arith, e)), lt-leb n 127 (omega arith))
+]
+
+-- ---- the bits of two numbers
+
+or-first : (a b : ℕ) → a ≤ bitOr a b
+or-first a b = omega (arith, or-add-and a b, and-le-r a b)
+
+or-second : (a b : ℕ) → b ≤ bitOr a b
+or-second a b = omega (arith, or-add-and a b, and-le-l a b)
+
+pub or-below : (a b : ℕ) → ltb (bitOr a b) 256 ≡ ltb a 256 && ltb b 256
+or-below a b = elim (decLt a 256) [
+  | yes h ↦ elim (decLt b 256) [
+    | yes k ↦ rw (lt-ltb (bitOr a b) 256 (or-lt 8 a b h k), lt-ltb a 256 h, lt-ltb b 256 k)
+    | no k ↦ rw (le-ltb (bitOr a b) 256 (omega (arith, or-second a b)), lt-ltb a 256 h, le-ltb b 256 (omega arith))
+  ]
+  | no h ↦ rw (le-ltb (bitOr a b) 256 (omega (arith, or-first a b)), le-ltb a 256 (omega arith))
+]
+
 -- ---- a pass over the first n elements
 
 pub allValid-none : (p : ℕ) (zs : List ℤ) → true ≡ allValid p zs 0
 unfolding allValid
 allValid-none p zs = refl
 
--- whether the numbers from `low` to `high` are int8 elements
-abbrev pub inRange : ℤ → ℤ → Bool
-inRange low high = leZ (negsuc 127) low && leZ high (pos 127)
-
-and-pairs : (a b c d : Bool) → a && b && (c && d) ≡ a && c && (b && d)
-and-pairs true b true d = refl
-and-pairs true true false d = refl
-and-pairs true false false d = refl
-and-pairs false b c d = refl
-
--- the code's range after one element more: the lower bounds of `low′` are those of `low` and x, the upper bounds of `high′` those of `high` and x
-pub allValid-next : (zs : List ℤ) (n : ℕ) (low high low′ high′ x : ℤ) → x ≡ getD zs n (pos 0) → inRange low high ≡ allValid 0 zs n
-    → leZ (negsuc 127) low′ ≡ leZ (negsuc 127) low && leZ (negsuc 127) x → leZ high′ (pos 127) ≡ leZ high (pos 127) && leZ x (pos 127)
-    → inRange low′ high′ ≡ allValid 0 zs (n + 1)
-unfolding allValid valueValid
-allValid-next zs n low high low′ high′ x r e l h =
-    rw (l, h) (and-pairs (leZ (negsuc 127) low) (leZ (negsuc 127) x) (leZ high (pos 127)) (leZ x (pos 127)))
-    ∙ ap (λ (t : Bool). t && inRange x x) e
-    ∙ ap (λ (z : ℤ). allValid 0 zs n && inRange z z) r
+-- one element more: s says that the first n are valid, t that the next one is
+pub allValid-next : (zs : List ℤ) (n : ℕ) (s t : Bool) (x : ℤ) → x ≡ getD zs n (pos 0) → s ≡ allValid 0 zs n → t ≡ valueValid 0 x → s && t ≡ allValid 0 zs (n + 1)
+unfolding allValid
+allValid-next zs n s t x r e h =
+    ap (λ (b : Bool). b && t) e
+    ∙ ap (λ (b : Bool). allValid 0 zs n && b) (h ∙ ap (λ (z : ℤ). valueValid 0 z) r)
     ∙ ap (λ (k : ℕ). allValid 0 zs k) (sym (add-one n))
 
 pub allValid-at : (p : ℕ) (zs : List ℤ) (n : ℕ) → allValid p zs n ≡ true → Valid p zs n

@@ -7,7 +7,7 @@ use lib.ListN.{getD}
 use lib.Dec.{ltb}
 use lib.IntN.{ℤ, pos, negsuc}
 
--- bytes an element, by the precision code: 0 int8 has 1, 1 int16 and 2 fp16 have 2
+-- bytes an element, by the precision code: 0 int8 has 1, 1 int16 and 2 fp16 have 2; so has every number that is no precision's code
 unfoldable pub elementBytes : ℕ → ℕ
 elementBytes zero = 1
 elementBytes (suc p) = 2

@@ -2,17 +2,17 @@
 ghost use mathlib.Core.Path.{_≡_};
 ghost use mathlib.Core.Bool.{false, _&&_};
 ghost use Prim.Native.Nat.{_+_, _*_, _/_, _%_, _<_, _≤_};
-ghost use lib.IntN.{ℤ, pos, _-ℤ_};
-ghost use lib.Signed.{leZ};
+ghost use lib.Dec.{ltb};
+ghost use lib.IntN.{pos, _-ℤ_};
 ghost use lib.ListN.{length};
 ghost use Rattle.refusal.specs.Checks.{inOrder};
 ghost use Rattle.elements.specs.Bytes.{elementBytes, byteOf, signed};
-ghost use Rattle.elements.specs.Values.{valueChecks};
+ghost use Rattle.elements.specs.Values.{valueValid, valueChecks};
 ghost use Rattle.elements.specs.Steps.{allValid};
 use refusal::Answer;
 use refusal::Refusal;
 
-// Bytes an element, by the precision code.
+// Bytes an element, by the precision code: 1 for int8, else 2, also for a number that is no precision's code.
 pub fn element_bytes(precision: u32) -> u32
     ensures { λ r. ⌜ r ≡ elementBytes precision ⌝ }
 {
@@ -70,34 +70,32 @@ pub fn from_bytes(low: u8, high: u8) -> i16
     less((word + 32768) % 65536, 32768)
 }
 
-// The lesser of two numbers: it has the lower bounds that both have.
-fn lesser(a: i16, b: i16) -> i16
-    ensures { λ r. ⌜ ((k : ℤ) → leZ k r ≡ leZ k a && leZ k b) ⌝ }
+// The bits of an element 128 higher: a number below 256 just where the element lies in -128..127.
+fn raised(x: i16) -> u16
+    ensures { λ r. ⌜ ltb r 256 ≡ valueValid 0 x ⌝ }
 {
-    if a <= b { a } else { b }
+    ((word(x) as u32 + 128) % 65536) as u16
 }
 
-// The greater of two numbers: it has the upper bounds that both have.
-fn greater(a: i16, b: i16) -> i16
-    ensures { λ r. ⌜ ((k : ℤ) → leZ r k ≡ leZ a k && leZ b k) ⌝ }
+// The bits of both numbers: a number below 256 just where both are.
+fn either(a: u16, b: u16) -> u16
+    ensures { λ r. ⌜ ltb r 256 ≡ ltb a 256 && ltb b 256 ⌝ }
 {
-    if a <= b { b } else { a }
+    a | b
 }
 
-// Whether every element lies in -128..127: the least and the greatest of them and 0 do. One pass without an early exit.
+// Whether every element lies in -128..127: no element 128 higher has a bit above the low eight. One pass without an early exit.
 fn all_int8(elements: &[i16]) -> bool
     ensures { λ r. ⌜ r ≡ allValid 0 (now (elements .entry)) (length (now (elements .entry))) ⌝ }
 {
-    let mut low: i16 = 0;
-    let mut high: i16 = 0;
+    let mut seen: u16 = 0;
     let mut i: usize = 0;
     while i < elements.len() {
         let x = elements[i];
-        low = lesser(low, x);
-        high = greater(high, x);
+        seen = either(seen, raised(x));
         i += 1;
     }
-    (-128 <= low) & (high <= 127)
+    seen < 256
 }
 
 // The index of the first element outside -128..127, of which there is one.

@@ -1,0 +1,30 @@
+-- `elements::raised` meets its contract, by what `word` ensures. Assumes nothing.
+use Prim.Native.Nat.{_+_, _*_}
+use mathlib.Core.Path.{_≡_}
+use mir.Facts.{toZ-ofZ}
+use borrow.Author.Needs.{needs}
+use Rattle.elements.specs.Bytes.{byteOf}
+use Rattle.elements.proofs.StepLaws.{raised-valid}
+use Rattle.elements.proofs.raised.Statement.{statement}
+use Rattle.elements.proofs.raised.Tie as tie
+
+word-requires : tie.Need-word-requires
+word-requires c κs = search needs
+
+cast-result : tie.Need-cast-result
+cast-result c = search needs
+
+add-result : tie.Need-add-result
+add-result c = search needs
+
+cast-result-2 : tie.Need-cast-result-2
+cast-result-2 c = search needs
+
+returns : tie.Need-returns
+returns c =
+    let s = c .before in
+    let w : c .word .result ≡ byteOf (s .args .x) 0 + 256 * byteOf (s .args .x) 1 = rw (toZ-ofZ (s .fits .x)) at (c .word .ensures) in
+    raised-valid (s .args .x) (c .word .result) (s .fits .x .sfits) w
+
+pub raised-spec : {M : Type 1} → statement M
+raised-spec = tie.close (tie.spec word-requires cast-result add-result cast-result-2 returns)
