@@ -64,7 +64,7 @@ fn write_some(
     at: usize,
     stride: usize,
 ) -> u32
-    requires { ⌜ (1 ≤ e) × (e ≤ 2) × (1 ≤ rows) × (count ≤ 64) × (length (now tile) ≡ 256) ⌝ }
+    requires { ⌜ (1 ≤ e) × (e ≤ 2) × (1 ≤ rows) × (4 ≤ rows * e → count ≤ 64) × (length (now tile) ≡ 256) ⌝ }
     requires { ⌜ from + rows * plane + count ≤ length (now elements) + plane ⌝ }
     requires { ⌜ (rows * e ≤ stride) × (at + stride * count + rows * e ≤ length (now buffer) + stride) ⌝ }
     ensures kept { λ k. ⌜ length (now (tile .exit)) ≡ 256 ⌝ }
@@ -89,7 +89,7 @@ fn write_some(
     1
 }
 
-// Rows of elements that lie `plane` apart, written in at most 64 columns that begin `stride` bytes apart.
+// Rows of elements that lie `plane` apart, written in columns that begin `stride` bytes apart: at most 64, where rows fill half a band.
 fn write_rows(
     e: u32,
     elements: &[i16],
@@ -101,7 +101,7 @@ fn write_rows(
     at: usize,
     stride: usize,
 )
-    requires { ⌜ (1 ≤ e) × (e ≤ 2) × (1 ≤ count) × (count ≤ 64) × (rows * e ≤ 4294967295) ⌝ }
+    requires { ⌜ (1 ≤ e) × (e ≤ 2) × (1 ≤ count) × (4 ≤ rows * e → count ≤ 64) × (rows * e ≤ 4294967295) ⌝ }
     requires { ⌜ from + rows * plane + count ≤ length (now elements) + plane ⌝ }
     requires { ⌜ (1 ≤ stride) × (rows * e ≤ stride) × (at + stride * count + rows * e ≤ length (now buffer) + stride) ⌝ }
     ensures { λ _. ⌜ now (buffer .exit) ≡ rowsWritten e (listed (now (elements .entry))) from plane rows count at stride (now (buffer .entry)) ⌝ }
@@ -148,6 +148,10 @@ pub(crate) fn write_strips(
     }
     if (stride == 2) & (e == 2) {
         write_unit(2, elements, from, plane, count, buffer, at, 2);
+        return;
+    }
+    if rows * e < 4 {
+        write_rows(e, elements, from, plane, rows, count, buffer, at, stride);
         return;
     }
     let mut source = from;

@@ -86,7 +86,7 @@ write-some-requires : tie.Need-write-some-requires Inv-loop μ-loop
 write-some-requires c κs = let i = c .before .before in
     let l = i .before in
     let s = l .before .before in
-    ((s .pre .0 .0, s .pre .0 .1, omega (arith, i .loop-test .taken), s .pre .0 .3, l .loop .inv .1), (room i .2, (omega (arith, s .pre .1 .1 .1, left l), omega (arith, s .pre .1 .1 .2, left l, long l))))
+    ((s .pre .0 .0, s .pre .0 .1, omega (arith, i .loop-test .taken), λ h. s .pre .0 .3 (omega (arith, h, left l)), l .loop .inv .1), (room i .2, (omega (arith, s .pre .1 .1 .1, left l), omega (arith, s .pre .1 .1 .2, left l, long l))))
 
 add-r : tie.Need-add-r Inv-loop μ-loop
 add-r c = omega (arith, some c)
