@@ -65,7 +65,7 @@ pub(crate) fn join_half(
     count: usize,
     tile: &mut [u16; 256],
 )
-    requires { ⌜ (1 ≤ e) × (e ≤ 2) × (count ≤ 64) × (length (now tile) ≡ 256) ⌝ }
+    requires { ⌜ (1 ≤ e) × (e ≤ 2) × (count ≤ 128) × (length (now tile) ≡ 256) ⌝ }
     requires { ⌜ from + 2 * ((3 - e) * plane) + count ≤ length (now elements) + plane ⌝ }
     ensures kept { λ _. ⌜ length (now (tile .exit)) ≡ 256 ⌝ }
     ensures joined { λ _. ⌜ ((m : ℕ) → m < 2 * count → getD (now (tile .exit)) m 0 ≡ columnUnit e (listed (now (elements .entry))) from plane (m / 2) (m % 2)) ⌝ }
@@ -125,7 +125,7 @@ pub(crate) fn write_half(
     at: usize,
     stride: usize,
 )
-    requires { ⌜ (count ≤ 64) × (4 ≤ stride) × (at + stride * count + 4 ≤ length (now buffer) + stride) ⌝ }
+    requires { ⌜ (count ≤ 128) × (4 ≤ stride) × (at + stride * count + 4 ≤ length (now buffer) + stride) ⌝ }
     ensures { λ _. ⌜ now (buffer .exit) ≡ columns (tileByte 2 (now (tile .entry))) 4 count at stride (now (buffer .entry)) ⌝ }
 {
     let mut i: usize = 0;

@@ -64,7 +64,7 @@ fn write_some(
     at: usize,
     stride: usize,
 ) -> u32
-    requires { ⌜ (1 ≤ e) × (e ≤ 2) × (1 ≤ rows) × (4 ≤ rows * e → count ≤ 64) × (length (now tile) ≡ 256) ⌝ }
+    requires { ⌜ (1 ≤ e) × (e ≤ 2) × (1 ≤ rows) × (4 ≤ rows * e → count ≤ 128) × (8 ≤ rows * e → count ≤ 64) × (length (now tile) ≡ 256) ⌝ }
     requires { ⌜ from + rows * plane + count ≤ length (now elements) + plane ⌝ }
     requires { ⌜ (rows * e ≤ stride) × (at + stride * count + rows * e ≤ length (now buffer) + stride) ⌝ }
     ensures kept { λ k. ⌜ length (now (tile .exit)) ≡ 256 ⌝ }
@@ -89,7 +89,7 @@ fn write_some(
     1
 }
 
-// Rows of elements that lie `plane` apart, written in columns that begin `stride` bytes apart: at most 64, where rows fill half a band.
+// Rows of elements that lie `plane` apart, written in columns that begin `stride` bytes apart, as many as a strip has.
 fn write_rows(
     e: u32,
     elements: &[i16],
@@ -101,7 +101,7 @@ fn write_rows(
     at: usize,
     stride: usize,
 )
-    requires { ⌜ (1 ≤ e) × (e ≤ 2) × (1 ≤ count) × (4 ≤ rows * e → count ≤ 64) × (rows * e ≤ 4294967295) ⌝ }
+    requires { ⌜ (1 ≤ e) × (e ≤ 2) × (1 ≤ count) × (4 ≤ rows * e → count ≤ 128) × (8 ≤ rows * e → count ≤ 64) × (rows * e ≤ 4294967295) ⌝ }
     requires { ⌜ from + rows * plane + count ≤ length (now elements) + plane ⌝ }
     requires { ⌜ (1 ≤ stride) × (rows * e ≤ stride) × (at + stride * count + rows * e ≤ length (now buffer) + stride) ⌝ }
     ensures { λ _. ⌜ now (buffer .exit) ≡ rowsWritten e (listed (now (elements .entry))) from plane rows count at stride (now (buffer .entry)) ⌝ }
@@ -125,7 +125,20 @@ fn write_rows(
     }
 }
 
-// Strips of 64 columns, all rows of a strip before the next strip.
+// How many columns a strip has, by the bytes of a column: a tile has room for 64 columns of a band, or 128 of half a band; fewer bytes need none.
+fn strip_of(bytes: u32) -> usize
+    ensures { λ n. ⌜ (1 ≤ n) × (4 ≤ bytes → n ≤ 128) × (8 ≤ bytes → n ≤ 64) ⌝ }
+{
+    if bytes < 4 {
+        return 4294967295;
+    }
+    if bytes < 8 {
+        return 128;
+    }
+    64
+}
+
+// Strips of columns, all rows of a strip before the next strip; elements that lie one behind another in one pass.
 pub(crate) fn write_strips(
     e: u32,
     elements: &[i16],
@@ -150,26 +163,23 @@ pub(crate) fn write_strips(
         write_unit(2, elements, from, plane, count, buffer, at, 2);
         return;
     }
-    if rows * e < 4 {
-        write_rows(e, elements, from, plane, rows, count, buffer, at, stride);
-        return;
-    }
+    let strip = strip_of(rows * e);
     let mut source = from;
     let mut done: usize = 0;
-    while 64 < count - done {
+    while strip < count - done {
         write_rows(
             e,
             elements,
             source,
             plane,
             rows,
-            64,
+            strip,
             buffer,
             at + stride * done,
             stride,
         );
-        source += 64;
-        done += 64;
+        source += strip;
+        done += strip;
     }
     write_rows(
         e,

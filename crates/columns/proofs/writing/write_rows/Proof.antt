@@ -39,7 +39,7 @@ room c =
     let r = l .loop .r in
     let w = left l in (
       omega (arith, s .pre .1 .0, s .pre .0 .2, w, rows-le 1 (a .rows - r) (a .plane) (omega (arith, c .loop-test .taken))),
-      omega (arith, s .pre .0 .4, w),
+      omega (arith, s .pre .0 .5, w),
       omega (arith, s .pre .1 .0, w),
       omega (arith, s .pre .1 .1 .2, w, stride-le (a .stride) (a .count) (s .pre .0 .2)),
     )
@@ -86,7 +86,7 @@ write-some-requires : tie.Need-write-some-requires Inv-loop μ-loop
 write-some-requires c κs = let i = c .before .before in
     let l = i .before in
     let s = l .before .before in
-    ((s .pre .0 .0, s .pre .0 .1, omega (arith, i .loop-test .taken), λ h. s .pre .0 .3 (omega (arith, h, left l)), l .loop .inv .1), (room i .2, (omega (arith, s .pre .1 .1 .1, left l), omega (arith, s .pre .1 .1 .2, left l, long l))))
+    ((s .pre .0 .0, s .pre .0 .1, omega (arith, i .loop-test .taken), λ h. s .pre .0 .3 (omega (arith, h, left l)), λ h. s .pre .0 .4 (omega (arith, h, left l)), l .loop .inv .1), (room i .2, (omega (arith, s .pre .1 .1 .1, left l), omega (arith, s .pre .1 .1 .2, left l, long l))))
 
 add-r : tie.Need-add-r Inv-loop μ-loop
 add-r c = omega (arith, some c)

@@ -49,12 +49,12 @@ mul-if1 c = search needs
 join-requires : tie.Need-join-requires
 join-requires c κs = let t = c .before in
     let s = t .before .before in
-    ((s .pre .0 .0, s .pre .0 .1, s .pre .0 .3 (omega (arith, band t)), s .pre .0 .4), omega (arith, s .pre .1 .0, band t))
+    ((s .pre .0 .0, s .pre .0 .1, s .pre .0 .4 (omega (arith, band t)), s .pre .0 .5), omega (arith, s .pre .1 .0, band t))
 
 write-tile-requires : tie.Need-write-tile-requires
 write-tile-requires c κs = let t = c .before .before .before .before in
     let s = t .before .before in
-    (s .pre .0 .3 (omega (arith, band t)), omega (arith, s .pre .1 .1 .0, band t), omega (arith, s .pre .1 .1 .1, band t))
+    (s .pre .0 .4 (omega (arith, band t)), omega (arith, s .pre .1 .1 .0, band t), omega (arith, s .pre .1 .1 .1, band t))
 
 sub-result : tie.Need-sub-result
 sub-result c = search needs
@@ -92,7 +92,7 @@ mul-if2 c = search needs
 join-half-requires : tie.Need-join-half-requires
 join-half-requires c κs = let t = c .before in
     let s = t .before .before .before in
-    ((s .pre .0 .0, s .pre .0 .1, s .pre .0 .3 (half t .0), s .pre .0 .4), omega (arith, s .pre .1 .0, half t))
+    ((s .pre .0 .0, s .pre .0 .1, s .pre .0 .3 (half t .0), s .pre .0 .5), omega (arith, s .pre .1 .0, half t))
 
 write-half-requires : tie.Need-write-half-requires
 write-half-requires c κs = let t = c .before .before .before .before in
@@ -145,7 +145,7 @@ returns-3 c = let f = c .before .before in
     let t = f .before .before in
     let s = t .before .before .before .before in
     let a = s .args in (
-      s .pre .0 .4,
+      s .pre .0 .5,
       (
         (omega (arith, s .pre .0 .1), t .if3 .taken),
         f .write-unit .ensures
@@ -166,7 +166,7 @@ returns-4 c = let f = c .before .before in
     let t = f .before .before in
     let s = t .before .before .before .before in
     let a = s .args in (
-      s .pre .0 .4,
+      s .pre .0 .5,
       (
         (omega arith, s .pre .0 .2),
         f .write-byte .ensures ∙ written-byte (a .e) (listed (a .elements .now)) (a .from) (a .plane) (a .count) (a .at) (a .stride) (last t .0) (omega (arith, s .pre .1 .1 .0, last t)) (a .buffer .now),

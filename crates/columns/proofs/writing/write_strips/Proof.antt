@@ -17,11 +17,11 @@ use Rattle.columns.proofs.writing.write_strips.Statement.{statement}
 use Rattle.columns.proofs.writing.write_strips.Tie as tie
 
 abbrev Inv-loop : tie.InvT-loop
-Inv-loop e elements from plane rows count buffer₀ at stride source₀ done₀ buffer source done =
+Inv-loop e elements from plane rows count buffer₀ at stride strip source₀ done₀ buffer source done =
     (done < count) × (source ≡ from + done) × (buffer ≡ rowsWritten e (listed elements) from plane rows done at stride buffer₀)
 
 abbrev μ-loop : tie.MeasureT-loop
-μ-loop e elements from plane rows count buffer₀ at stride source₀ done₀ buffer source done = count - done
+μ-loop e elements from plane rows count buffer₀ at stride strip source₀ done₀ buffer source done = count - done
 
 -- n columns written
 abbrev written : tie.Start Inv-loop μ-loop → ℕ → List ℕ
@@ -96,33 +96,30 @@ returns-2 c = let f = c .before .before in
     ∙ written-as 2 src (a .from) (a .plane) (a .count) (a .at) 2 1 2 (a .buffer .now) refl
     ∙ written-line src (a .from) (a .plane) (a .count) (a .at) 2 (a .e) (a .rows) (a .stride) (a .buffer .now) (w .1) (w .0) (w .2)
 
--- few rows: all columns at once
-mul-if3 : tie.Need-mul-if3 Inv-loop μ-loop
-mul-if3 c = let s = c .before .before .before in omega (arith, s .pre .0 .4)
+mul-strip-of : tie.Need-mul-strip-of Inv-loop μ-loop
+mul-strip-of c = let s = c .before .before .before in omega (arith, s .pre .0 .4)
 
-write-rows-requires : tie.Need-write-rows-requires Inv-loop μ-loop
-write-rows-requires c κs = let t = c .before in
-    let s = t .before .before .before .before in
-    ((s .pre .0 .0, s .pre .0 .1, s .pre .0 .3, λ h. absurd (omega (arith, h, t .if3 .taken)), s .pre .0 .4), (s .pre .1 .0, s .pre .1 .1))
-
-same-length-3 : tie.Need-same-length-3 Inv-loop μ-loop
-same-length-3 c = search needs
-
-returns-3 : tie.Need-returns-3 Inv-loop μ-loop
-returns-3 c = c .before .before .write-rows .ensures
+strip-of-requires : tie.Need-strip-of-requires Inv-loop μ-loop
+strip-of-requires c κs = search needs
 
 long : (c : tie.At-loop Inv-loop μ-loop) → length (c .loop .buffer) ≡ length (c .before .before .before .before .before .args .buffer .now)
 long c = ap length (c .loop .inv .2) ∙ written-long (c .before .before .before .before .before) (c .loop .done)
 
--- a strip of 64 columns is left
-strip : (c : tie.In-loop Inv-loop μ-loop) → c .before .loop .done + 64 < c .before .before .before .before .before .before .args .count
+-- how many columns a strip has
+abbrev wide : tie.At-loop Inv-loop μ-loop → ℕ
+wide l = l .before .strip-of .result
+
+-- a whole strip is left, and more
+strip : (c : tie.In-loop Inv-loop μ-loop) → c .before .loop .done + wide (c .before) < c .before .before .before .before .before .before .args .count
 strip c = omega (arith, c .loop-test .taken)
 
 strip-in : (c : tie.In-loop Inv-loop μ-loop) → let a = c .before .before .before .before .before .before .args in
     let done = c .before .loop .done in
-    (a .at + a .stride * done + a .stride * 64 + a .rows * a .e ≤ length (a .buffer .now) + a .stride) × (a .at + a .stride * done ≤ length (a .buffer .now))
-    × (a .from + done + a .rows * a .plane + 64 ≤ length (a .elements .now) + a .plane) × (a .from + done ≤ length (a .elements .now))
-strip-in c = room (c .before .before .before .before .before .before) (c .before .loop .done) 64 (omega arith) (omega (arith, strip c))
+    (a .at + a .stride * done + a .stride * wide (c .before) + a .rows * a .e ≤ length (a .buffer .now) + a .stride) × (a .at + a .stride * done ≤ length (a .buffer .now))
+    × (a .from + done + a .rows * a .plane + wide (c .before) ≤ length (a .elements .now) + a .plane) × (a .from + done ≤ length (a .elements .now))
+strip-in c =
+    let l = c .before in
+    room (l .before .before .before .before .before) (l .loop .done) (wide l) (l .before .strip-of .ensures .0) (omega (arith, strip c))
 
 rest-in : (c : tie.After-loop Inv-loop μ-loop) → let a = c .before .before .before .before .before .before .args in
     let done = c .before .loop .done in
@@ -146,20 +143,22 @@ mul-write-rows c = omega (arith, strip-in (c .before))
 add-write-rows : tie.Need-add-write-rows Inv-loop μ-loop
 add-write-rows c = omega (arith, strip-in (c .before))
 
-write-rows-requires-2 : tie.Need-write-rows-requires-2 Inv-loop μ-loop
-write-rows-requires-2 c κs = let i = c .before in
+write-rows-requires : tie.Need-write-rows-requires Inv-loop μ-loop
+write-rows-requires c κs = let i = c .before in
     let l = i .before in
     let s = l .before .before .before .before .before in
-    ((s .pre .0 .0, s .pre .0 .1, omega arith, λ h. omega arith, s .pre .0 .4), (omega (arith, strip-in i, l .loop .inv .1), (s .pre .1 .1 .0, s .pre .1 .1 .1, omega (arith, strip-in i, long l))))
+    ((s .pre .0 .0, s .pre .0 .1, l .before .strip-of .ensures .0, l .before .strip-of .ensures .1, l .before .strip-of .ensures .2, s .pre .0 .4), (omega (arith, strip-in i, l .loop .inv .1), (s .pre .1 .1 .0, s .pre .1 .1 .1, omega (arith, strip-in i, long l))))
 
 add-source : tie.Need-add-source Inv-loop μ-loop
-add-source c = let i = c .before .before .before .before in omega (arith, strip-in i, i .before .loop .inv .1, i .before .before .before .before .before .before .good)
+add-source c = let i = c .before .before .before .before in
+    let s = i .before .before .before .before .before .before in
+    omega (arith, strip-in i, i .before .loop .inv .1, s .good, stride-le (s .args .plane) (s .args .rows) (s .pre .0 .2))
 
 add-done : tie.Need-add-done Inv-loop μ-loop
 add-done c = let i = c .before .before .before .before in omega (arith, strip i)
 
 loop-less : tie.Need-loop-less Inv-loop μ-loop
-loop-less c = let i = c .before .before .before .before in omega (arith, strip i)
+loop-less c = let i = c .before .before .before .before in omega (arith, strip i, i .before .before .strip-of .ensures .0)
 
 loop-again : tie.Need-loop-again Inv-loop μ-loop
 loop-again c = let f = c .before .before in
@@ -169,7 +168,7 @@ loop-again c = let f = c .before .before in
     let a = s .args in (
       strip i,
       omega (arith, l .loop .inv .1),
-      written-strip (a .e) (listed (a .elements .now)) (a .from) (a .plane) (a .rows) (a .at) (a .stride) (s .pre .1 .1 .1) (l .loop .done) 64 (l .loop .source) (a .buffer .now) (l .loop .inv .1) (l .loop .inv .2) (f .write-rows2 .ensures),
+      written-strip (a .e) (listed (a .elements .now)) (a .from) (a .plane) (a .rows) (a .at) (a .stride) (s .pre .1 .1 .1) (l .loop .done) (wide l) (l .loop .source) (a .buffer .now) (l .loop .inv .1) (l .loop .inv .2) (f .write-rows .ensures),
     )
 
 sub-write-rows : tie.Need-sub-write-rows Inv-loop μ-loop
@@ -181,28 +180,28 @@ mul-write-rows-2 c = omega (arith, rest-in (c .before))
 add-write-rows-2 : tie.Need-add-write-rows-2 Inv-loop μ-loop
 add-write-rows-2 c = omega (arith, rest-in (c .before))
 
-write-rows-requires-3 : tie.Need-write-rows-requires-3 Inv-loop μ-loop
-write-rows-requires-3 c κs = let i = c .before in
+write-rows-requires-2 : tie.Need-write-rows-requires-2 Inv-loop μ-loop
+write-rows-requires-2 c κs = let i = c .before in
     let l = i .before in
     let s = l .before .before .before .before .before in
-    ((s .pre .0 .0, s .pre .0 .1, omega (arith, l .loop .inv .0), λ h. omega (arith, i .loop-test .left), s .pre .0 .4), (omega (arith, rest-in i, l .loop .inv .1), (s .pre .1 .1 .0, s .pre .1 .1 .1, omega (arith, rest-in i, long l))))
+    ((s .pre .0 .0, s .pre .0 .1, omega (arith, l .loop .inv .0), λ h. omega (arith, i .loop-test .left, l .before .strip-of .ensures .1 h), λ h. omega (arith, i .loop-test .left, l .before .strip-of .ensures .2 h), s .pre .0 .4), (omega (arith, rest-in i, l .loop .inv .1), (s .pre .1 .1 .0, s .pre .1 .1 .1, omega (arith, rest-in i, long l))))
 
 -- all columns are written
-whole : (c : tie.After-slice-known6 Inv-loop μ-loop) → let s = c .before .before .before .before .before .before .before .before .before .before in
-    _≡_ {A = List ℕ} (c .before .before .write-rows3 .last .1 .1 .1 .1 .1 .1 .0) (written s (s .args .count))
+whole : (c : tie.After-slice-known5 Inv-loop μ-loop) → let s = c .before .before .before .before .before .before .before .before .before .before in
+    _≡_ {A = List ℕ} (c .before .before .write-rows2 .last .1 .1 .1 .1 .1 .1 .0) (written s (s .args .count))
 whole c = let f = c .before .before in
     let l = f .before .before .before in
     let s = l .before .before .before .before .before in
     let a = s .args in
     let all : l .loop .done + (a .count - l .loop .done) ≡ a .count = omega (arith, l .loop .inv .0) in
-    written-strip (a .e) (listed (a .elements .now)) (a .from) (a .plane) (a .rows) (a .at) (a .stride) (s .pre .1 .1 .1) (l .loop .done) (a .count - l .loop .done) (l .loop .source) (a .buffer .now) (l .loop .inv .1) (l .loop .inv .2) (f .write-rows3 .ensures)
+    written-strip (a .e) (listed (a .elements .now)) (a .from) (a .plane) (a .rows) (a .at) (a .stride) (s .pre .1 .1 .1) (l .loop .done) (a .count - l .loop .done) (l .loop .source) (a .buffer .now) (l .loop .inv .1) (l .loop .inv .2) (f .write-rows2 .ensures)
     ∙ ap (written s) all
 
-same-length-4 : tie.Need-same-length-4 Inv-loop μ-loop
-same-length-4 c = let s = c .before .before .before .before .before .before .before .before .before .before in ap length (whole c) ∙ written-long s (s .args .count)
+same-length-3 : tie.Need-same-length-3 Inv-loop μ-loop
+same-length-3 c = let s = c .before .before .before .before .before .before .before .before .before .before in ap length (whole c) ∙ written-long s (s .args .count)
 
-returns-4 : tie.Need-returns-4 Inv-loop μ-loop
-returns-4 c = whole c
+returns-3 : tie.Need-returns-3 Inv-loop μ-loop
+returns-3 c = whole c
 
 pub write-strips-spec : {M : Type 1} → statement M
 write-strips-spec =
@@ -216,15 +215,13 @@ write-strips-spec =
     write-unit-requires
     same-length-2
     returns-2
-    mul-if3
-    write-rows-requires
-    same-length-3
-    returns-3
+    mul-strip-of
+    strip-of-requires
     loop-holds
     sub-loop
     mul-write-rows
     add-write-rows
-    write-rows-requires-2
+    write-rows-requires
     add-source
     add-done
     loop-less
@@ -232,6 +229,6 @@ write-strips-spec =
     sub-write-rows
     mul-write-rows-2
     add-write-rows-2
-    write-rows-requires-3
-    same-length-4
-    returns-4)
+    write-rows-requires-2
+    same-length-3
+    returns-3)
