@@ -20,7 +20,8 @@ use Rattle.refusal.specs.Checks.{leaves, quantity, result}
 use Rattle.layout.specs.declared.CubeLayout.{CubeLayout}
 use Rattle.layout.specs.Calls.{extentQuantity}
 use Rattle.regions.specs.declared.RegionTable.{RegionTable}
-use Rattle.regions.specs.Slots.{rectangle, slotsOf}
+use Rattle.regions.specs.Slots.{rectangle}
+use Rattle.regions.specs.Rules.{accessOf}
 use Rattle.regions.specs.Calls.{emptyTable, placeAnswer, placeTable, regionPosition}
 use Rattle.regions.proofs.RuleLaws.{place-accepted, rectangle-columns, rectangle-rows}
 use Rattle.records.specs.declared.Record.{Record}
@@ -119,9 +120,9 @@ module _ (t : RegionTable) (slot w0 h0 w h : ℕ) (ok : placeAnswer t slot (rect
   unfolding placeAnswer
   count-le =
       let g = rectangle w0 h0 w h in
-      let p = place-accepted (t .layout) (slotsOf t) slot g ok in
+      let p = place-accepted (accessOf t slot) g ok in
       mul-le-mul {n₁ = w} {m₁ = h} {n₂ = 8192} {m₂ = 8192} (omega (arith, p .layout .width-le, rectangle-columns (t .layout) g (p .inside) .fit)) (omega (arith, p .layout .height-le, rectangle-rows (t .layout) g (p .inside) .fit))
 
   pub count-all-le : w * h * t .layout .channels ≤ 8192 * 8192 * 8192
   unfolding placeAnswer
-  count-all-le = mul-le-mul count-le (place-accepted (t .layout) (slotsOf t) slot (rectangle w0 h0 w h) ok .layout .channels-le)
+  count-all-le = mul-le-mul count-le (place-accepted (accessOf t slot) (rectangle w0 h0 w h) ok .layout .channels-le)

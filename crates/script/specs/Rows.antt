@@ -9,8 +9,8 @@ use Rattle.layout.specs.Geometry.{layoutOf, elementPosition, cubeExtent}
 use Rattle.layout.specs.Boxes.{oneElement}
 use Rattle.layout.specs.Rules.{layoutChecks}
 use Rattle.regions.specs.declared.RegionTable.{RegionTable}
-use Rattle.regions.specs.Slots.{rectangle, slotsOf}
-use Rattle.regions.specs.Rules.{rectangleAt, regionBoxChecks}
+use Rattle.regions.specs.Slots.{rectangle}
+use Rattle.regions.specs.Rules.{accessOf, rectangleNamed, regionBoxChecks}
 use Rattle.regions.specs.Calls.{emptyTable, placeAnswer, placeTable}
 use Rattle.records.specs.declared.Record.{Record}
 use Rattle.records.specs.declared.Record.the-variants.{Frame, Stall, Cell, Unreadable}
@@ -32,7 +32,7 @@ framedOr d a = cond (d .framed) a (Refused Size 0)
 unfoldable pub recordAnswer : Desk → Record → Answer
 recordAnswer d (Frame q) = inOrder (layoutChecks q)
 recordAnswer d (Stall slot w0 h0 w h) = framedOr d (placeAnswer (d .table) slot (rectangle w0 h0 w h))
-recordAnswer d (Cell slot c h w) = framedOr d (inOrder (regionBoxChecks (d .table .layout) (slotsOf (d .table)) slot (oneElement c h w)))
+recordAnswer d (Cell slot c h w) = framedOr d (inOrder (regionBoxChecks (accessOf (d .table) slot) (oneElement c h w)))
 recordAnswer d Unreadable = Refused ScriptLine 0
 
 -- extent, cell count of the stall, byte position
@@ -40,7 +40,7 @@ unfoldable pub recordValue : Desk → Record → ℕ
 recordValue d (Frame q) = cubeExtent q
 recordValue d (Stall slot w0 h0 w h) = w * h * d .table .layout .channels
 recordValue d (Cell slot c h w) =
-    let g = rectangleAt (slotsOf (d .table)) slot in
+    let g = rectangleNamed (accessOf (d .table) slot) in
     elementPosition (d .table .layout) c (g .row + h) (g .column + w)
 recordValue d Unreadable = 0
 
