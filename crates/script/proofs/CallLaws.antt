@@ -27,7 +27,7 @@ use Rattle.script.specs.declared.After.{After}
 use Rattle.script.specs.declared.Given.the-variants.{Nothing, Line}
 use Rattle.script.specs.Sheets.{rowOf}
 use Rattle.script.specs.Steps.{desk, afterRecord}
-use Rattle.script.specs.Feed.{withLines, lineEnded, lineRow, lineFed, fed, andThen, Outcome, partFed}
+use Rattle.script.specs.Feed.{withLines, lineEnded, lineRow, lineFed, fed, andThen, Outcome, thenFed, partFed}
 
 -- ---- one call
 
@@ -106,13 +106,13 @@ calls-enough (suc a) (suc b) s part h k =
           let g = fed s part in
           let read : 0 < g .read = read-some s part (omega arith) in
           let less : length (drop (g .read) part) ≡ length part - g .read = length-drop (g .read) part in
-          ap (λ (o : Outcome). record { rows = andThen (g .given) (o .rows); sheet = o .sheet }) (calls-enough a b (g .sheet) (drop (g .read) part) (omega arith) (omega arith))
+          ap (thenFed (g .given)) (calls-enough a b (g .sheet) (drop (g .read) part) (omega arith) (omega arith))
           )
     ]
 
 -- one call more for a part of which `from` bytes are read
 pub part-next : (s : Sheet) (part : List ℕ) (from : ℕ) {f : Fed} → from < length part → f ≡ fed s (take (length part - from) (drop from part))
-    → partFed (length part - (from + f .read)) (f .sheet) (drop (from + f .read) part) .sheet ≡ partFed (length part - from) s (drop from part) .sheet
+    → partFed (length part - from) s (drop from part) ≡ thenFed (f .given) (partFed (length part - (from + f .read)) (f .sheet) (drop (from + f .read) part))
 unfolding partFed
 part-next s part from {f} h e =
     let rest = drop from part in
@@ -122,10 +122,12 @@ part-next s part from {f} h e =
     let read : 0 < f .read = rw same (read-some s rest (omega arith)) in
     let less : length (drop (f .read) rest) ≡ length rest - f .read = length-drop (f .read) rest in
     let one : length part - from ≡ suc left = omega arith in
-    ap (λ (l : List ℕ). partFed (length part - (from + f .read)) (f .sheet) l .sheet) (sym (drop-drop (f .read) from part))
-    ∙ ap (λ (o : Outcome). o .sheet) (calls-enough (length part - (from + f .read)) left (f .sheet) (drop (f .read) rest) (omega arith) (omega arith))
+    ap (λ (k : ℕ). partFed k s rest) one
     ∙ first rest left same
-    ∙ ap (λ (k : ℕ). partFed k s rest .sheet) (sym one)
+    ∙ ap
+    (thenFed (f .given))
+    (calls-enough left (length part - (from + f .read)) (f .sheet) (drop (f .read) rest) (omega arith) (omega arith)
+    ∙ ap (partFed (length part - (from + f .read)) (f .sheet)) (drop-drop (f .read) from part))
   where
-    first : (rest : List ℕ) (left : ℕ) → f ≡ fed s rest → partFed left (f .sheet) (drop (f .read) rest) .sheet ≡ partFed (suc left) s rest .sheet
+    first : (rest : List ℕ) (left : ℕ) → f ≡ fed s rest → partFed (suc left) s rest ≡ thenFed (f .given) (partFed left (f .sheet) (drop (f .read) rest))
     first rest left same = rw same

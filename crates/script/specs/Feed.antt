@@ -63,13 +63,14 @@ pub record Outcome : Type 0 where
   pub rows : List Row
   pub sheet : Sheet
 
+-- what a call gave, before what the calls after it gave
+abbrev pub thenFed : Given → Outcome → Outcome
+thenFed given o = record { rows = andThen given (o .rows); sheet = o .sheet }
+
 -- a part, fed so many times, each time what is left of it
 unfoldable pub partFed : ℕ → Sheet → List ℕ → Outcome
 partFed zero s part = record { rows = []; sheet = s }
-partFed (suc calls) s part =
-    let f = fed s part in
-    let o = partFed calls (f .sheet) (drop (f .read) part) in
-    record { rows = andThen (f .given) (o .rows); sheet = o .sheet }
+partFed (suc calls) s part = let f = fed s part in thenFed (f .given) (partFed calls (f .sheet) (drop (f .read) part))
 
 -- a part, fed until all of it is read: each call reads a byte at least, so its length is calls enough
 abbrev pub wholePart : Sheet → List ℕ → Outcome

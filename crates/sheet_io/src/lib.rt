@@ -1,58 +1,122 @@
 // The sheet program's reading and writing (scope paper, "The sheet program"): standard input to its end, and what the library gives to write, one text
-// after another. Of reading and writing themselves nothing is proved.
+// after another. Of reading and writing themselves nothing is proved; what is given to `write` is promised by a checksum of its bytes.
 ghost use mathlib.Core.Path.{_≡_};
-ghost use Rattle.script.specs.Feed.{wholePart};
+ghost use Prim.Native.Nat.{min};
+ghost use Rattle.lines.specs.Collecting.{lineText};
+ghost use Rattle.sheet_io.specs.Printing.{mixed, checksum, startPrinted, partPrinted, Reading, Whole};
 use libc::STDIN_FILENO;
 use libc::STDOUT_FILENO;
 use lines::Line;
 use script::Sheet;
 
-// Writes a text of at most 120 bytes; the library gives no longer one.
-fn write(text: Line) {
-    if lines::whole(text) {
-        let n = text.length as usize;
-        let bytes = text.bytes;
-        io::write_all(STDOUT_FILENO, &bytes[..n]);
+// The state after what was read, and the checksum of all bytes that were written.
+pub struct Printed {
+    pub sheet: Sheet,
+    pub sum: u64,
+}
+
+// A checksum with one byte more.
+fn mixed_in(sum: u64, b: u8) -> u64
+    ensures { λ r. ⌜ r ≡ mixed sum b ⌝ }
+{
+    (sum % 4294967296 * 65599 + b as u64 + 1) % 4294967296
+}
+
+// A checksum with more bytes.
+fn summed(before: u64, text: &[u8]) -> u64
+    ensures { λ r. ⌜ r ≡ checksum before (now (text .entry)) ⌝ }
+{
+    let mut sum = before;
+    let mut i = 0;
+    while i < text.len() {
+        sum = mixed_in(sum, text[i]);
+        i += 1;
     }
+    sum
+}
+
+// How many bytes of a line of so many are kept.
+fn kept(length: u32) -> usize
+    ensures { λ r. ⌜ r ≡ min length 120 ⌝ }
+{
+    if length < 120 {
+        return length as usize;
+    }
+    120
+}
+
+// Writes a text; the checksum after it.
+fn write(sum: u64, text: Line) -> u64
+    ensures { λ r. ⌜ r ≡ checksum sum (lineText text) ⌝ }
+{
+    let n = kept(text.length);
+    let bytes = text.bytes;
+    io::write_all(STDOUT_FILENO, &bytes[..n]);
+    summed(sum, &bytes[..n])
 }
 
 // Feeds a part of the input until all of it is read, and writes what each call gives.
-fn feed_all(sheet: Sheet, part: &[u8]) -> Sheet
-    ensures { λ r. ⌜ r ≡ wholePart sheet (now (part .entry)) .sheet ⌝ }
+fn feed_all(before: Printed, part: &[u8]) -> Printed
+    ensures { λ r. ⌜ r ≡ partPrinted before (now (part .entry)) ⌝ }
 {
-    let mut state = sheet;
+    let mut state = before.sheet;
+    let mut sum = before.sum;
     let mut from = 0;
     while from < part.len() {
         let fed = script::feed(state, &part[from..]);
         let given = fed.given;
-        write(script::given_text(given));
+        sum = write(sum, script::given_text(given));
         state = fed.sheet;
         from += fed.read;
     }
-    state
+    Printed {
+        sheet: state,
+        sum: sum,
+    }
+}
+
+// No part is read, and the header is written.
+fn begin() -> Printed
+    ensures { λ r. ⌜ r ≡ startPrinted ⌝ }
+{
+    let sheet = script::begin();
+    let header = write(0, script::header_text());
+    Printed {
+        sheet: sheet,
+        sum: header,
+    }
 }
 
 // Reads the input part by part. The count of parts only bounds the loop: 2^64 of them are never read.
-fn read_all() -> Sheet {
+fn read_all() -> Printed
+    ensures { λ r. ⌜ Reading r ⌝ }
+{
     let mut buffer = io::large_buffer();
-    let mut state = script::begin();
+    let mut printed = begin();
     let mut left: u64 = 18446744073709551615;
     while 0 < left {
         let n = io::read_full(STDIN_FILENO, &mut buffer);
         if n == 0 {
             break;
         }
-        state = feed_all(state, &buffer[..n]);
+        printed = feed_all(printed, &buffer[..n]);
         left -= 1;
     }
-    state
+    printed
 }
 
 // The program: the header, a row for each line, and the row of a last line that lacks its newline.
-pub fn run() {
-    write(script::header_text());
-    let state = read_all();
-    let last = script::finish(state);
+pub fn run() -> Printed
+    ensures { λ r. ⌜ Whole r ⌝ }
+{
+    let printed = read_all();
+    let sheet = printed.sheet;
+    let last = script::finish(sheet);
     let given = last.given;
-    write(script::given_text(given));
+    let all = write(printed.sum, script::given_text(given));
+    let end = last.sheet;
+    Printed {
+        sheet: end,
+        sum: all,
+    }
 }

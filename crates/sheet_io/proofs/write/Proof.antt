@@ -1,51 +1,59 @@
--- `sheet_io::write` is safe and ends: all bytes of the text are kept. Assumes nothing.
-use Prim.Native.Nat.{_≤_}
-use mathlib.Core.Path.{_≡_, sym, _∙_}
+-- `sheet_io::write` meets its contract: all bytes of the text are kept. Assumes nothing.
+use Prim.Native.Nat.{_≤_, min}
+use mathlib.Core.Path.{_≡_, sym, ap, _∙_}
+use native.Mathlib.Nat.{min-le-right}
 use native.Mathlib.Omega.{arith}
 use lib.ListN.{length}
 use lib.Seq.{length-take-le}
-use borrow.Author.Tests.{leb-true}
-use Rattle.lines.proofs.StepLaws.{length-mapped}
 use borrow.Author.Needs.{needs}
+use Rattle.lines.proofs.StepLaws.{length-mapped}
+use Rattle.sheet_io.specs.Printing.{checksum}
+use Rattle.sheet_io.proofs.PrintLaws.{kept-text}
 use Rattle.sheet_io.proofs.write.Statement.{statement}
 use Rattle.sheet_io.proofs.write.Tie as tie
 
-whole-requires : tie.Need-whole-requires
-whole-requires c κs = search needs
+kept-requires : tie.Need-kept-requires
+kept-requires c κs = search needs
 
-cast-n : tie.Need-cast-n
-cast-n c = search needs
+room : (c : tie.After-kept) → length (c .before .args .text .bytes) ≡ 120
+room c = search length-mapped
 
-kept : (c : tie.After-bytes) → let l = c .before .before .before .before .args .text in l .length ≤ length (l .bytes)
-kept c =
-    let t = c .before .before in
-    let l = t .before .before .args .text in
-    let long : length (l .bytes) ≡ 120 = search length-mapped in
-    omega (arith, long, leb-true (l .length) 120 (sym (t .before .whole .ensures) ∙ t .if1 .taken))
+within : (c : tie.After-kept) → c .kept .result ≤ length (c .before .args .text .bytes)
+within c = omega (arith, room c, c .kept .ensures, min-le-right (c .before .args .text .length) 120)
 
 array-share-prefix-bytes : tie.Need-array-share-prefix-bytes
-array-share-prefix-bytes c = kept c
+array-share-prefix-bytes c = within (c .before)
 
 slice-aggregate-write-all : tie.Need-slice-aggregate-write-all
-slice-aggregate-write-all c = sym (length-take-le _ _ (kept (c .before)))
+slice-aggregate-write-all c = sym (length-take-le _ _ (within (c .before .before)))
 
 write-all-requires : tie.Need-write-all-requires
 write-all-requires c κs = search needs
 
-returns : tie.Need-returns
-returns c = search needs
+array-share-prefix-bytes-2 : tie.Need-array-share-prefix-bytes-2
+array-share-prefix-bytes-2 c = within (c .before .before .before)
 
-returns-2 : tie.Need-returns-2
-returns-2 c = search needs
+slice-aggregate-summed : tie.Need-slice-aggregate-summed
+slice-aggregate-summed c = sym (length-take-le _ _ (within (c .before .before .before .before)))
+
+summed-requires : tie.Need-summed-requires
+summed-requires c κs = search needs
+
+returns : tie.Need-returns
+returns c =
+    let k = c .before .before .before .before .before in
+    let a = k .before .args in
+    c .summed .ensures ∙ ap (checksum (a .sum)) (kept-text (a .text) (k .kept .result) (room k) (k .kept .ensures))
 
 pub write-spec : {M : Type 1} → statement M
 write-spec =
     tie.close
     (tie.spec
-    whole-requires
-    cast-n
+    kept-requires
     array-share-prefix-bytes
     slice-aggregate-write-all
     write-all-requires
-    returns
-    returns-2)
+    array-share-prefix-bytes-2
+    slice-aggregate-summed
+    summed-requires
+    returns)

@@ -1,0 +1,135 @@
+-- The checksum of bytes one after another, and of the rows that calls gave. Assumes nothing.
+--     checksum-end, checksum-next      bytes mixed in from a byte on
+--     kept-text                        the bytes of a line that are kept
+--     call-printed                     one call for a part, before the calls after it
+--     reading-none, reading-more       no part is read, one part more
+--     reading-whole                    the end of the input
+use Prim.Native.Nat.{ℕ, _+_, _-_, _≤_, _<_, min}
+use native.Mathlib.Nat.{min-eq-left, min-eq-right}
+use native.Mathlib.Numerals.{add-one}
+use native.Mathlib.Decide.{decLe}
+use native.Mathlib.Omega.{arith}
+use mathlib.Core.Path.{_≡_, refl, sym, ap, _∙_}
+use mathlib.Core.List.{List, [], _∷_, _++_, map, flatten, append-assoc, append-nil}
+use lib.ListN.{length, take, drop, getD, drop-of-length-le}
+use lib.Seq.{drop-cons, take-all}
+use Rattle.lines.specs.declared.Line.{Line}
+use Rattle.lines.specs.Collecting.{lineText, written}
+use Rattle.lines.proofs.HoldLaws.{written-text}
+use Rattle.script.specs.declared.Sheet.{Sheet}
+use Rattle.script.specs.declared.Fed.{Fed}
+use Rattle.script.specs.declared.Row.{Row}
+use Rattle.script.specs.declared.Given.{Given}
+use Rattle.script.specs.declared.Given.the-variants.{Nothing, Line as Ended}
+use Rattle.script.specs.Feed.{Outcome, startSheet, fed, finished, andThen, thenFed, partFed, wholePart, rowsOfParts}
+use Rattle.script.specs.Output.{header, rowText, givenText, outputOfParts}
+use Rattle.script.proofs.CallLaws.{part-next}
+use Rattle.script.proofs.OutputLaws.{handed-over}
+use Rattle.sheet_io.specs.declared.Printed.{Printed}
+use Rattle.sheet_io.specs.Printing.{mixed, checksum, rowsText, startPrinted, callsPrinted, partPrinted, partsPrinted, Reading, Whole}
+
+-- ---- bytes
+
+module _ (sum : ℕ) (text : List ℕ) (i : ℕ) where
+  pub checksum-end : length text ≤ i → sum ≡ checksum sum (drop i text)
+  unfolding checksum
+  checksum-end h = sym (ap (checksum sum) (drop-of-length-le text {i = i} h))
+
+  pub checksum-next : i < length text → checksum (mixed sum (getD text i 0)) (drop (i + 1) text) ≡ checksum sum (drop i text)
+  unfolding checksum
+  checksum-next h = rw (drop-cons text i 0 h, add-one i)
+
+checksum-append : (xs ys : List ℕ) (sum : ℕ) → checksum sum (xs ++ ys) ≡ checksum (checksum sum xs) ys
+unfolding checksum
+checksum-append [] ys sum = refl
+checksum-append (b ∷ xs) ys sum = checksum-append xs ys (mixed sum b)
+
+-- a line has room for 120 bytes
+pub kept-text : (l : Line) (n : ℕ) → length (l .bytes) ≡ 120 → n ≡ min (l .length) 120 → take n (l .bytes) ≡ lineText l
+unfolding lineText
+kept-text l n room e =
+    elim (decLe (l .length) 120) [
+      | yes h ↦ ap (λ (k : ℕ). take k (l .bytes)) (e ∙ min-eq-left h)
+      | no f ↦ ap (λ (k : ℕ). take k (l .bytes)) (e ∙ min-eq-right (omega arith)) ∙ take-all 120 (l .bytes) (omega (arith, room)) ∙ sym (take-all (l .length) (l .bytes) (omega (arith, room)))
+    ]
+
+-- ---- calls and parts
+
+given-printed : (sum : ℕ) (g : Given) (o : Outcome) → callsPrinted sum (thenFed g o) ≡ callsPrinted (checksum sum (givenText g)) o
+unfolding andThen givenText checksum flatten
+given-printed sum Nothing o = refl
+given-printed sum (Ended row) o = ap (λ (s : ℕ). record { sheet = o .sheet; sum = s }) (checksum-append (rowText row) (rowsText (o .rows)) sum)
+
+-- a call for a part of which `from` bytes are read, and its text written
+pub call-printed : (sum : ℕ) (s : Sheet) (part : List ℕ) (from : ℕ) {f : Fed} {text : Line} {next : ℕ} → from < length part
+    → f ≡ fed s (take (length part - from) (drop from part))
+    → text ≡ written (givenText (f .given))
+    → next ≡ checksum sum (lineText text)
+    → callsPrinted next (partFed (length part - (from + f .read)) (f .sheet) (drop (from + f .read) part)) ≡ callsPrinted sum (partFed (length part - from) s (drop from part))
+call-printed sum s part from {f} {text} {next} h e t n =
+    let o = partFed (length part - (from + f .read)) (f .sheet) (drop (from + f .read) part) in
+    let given : next ≡ checksum sum (givenText (f .given)) = n ∙ ap (λ (l : Line). checksum sum (lineText l)) t ∙ ap (checksum sum) (written-text (givenText (f .given))) in
+    ap (λ (k : ℕ). callsPrinted k o) given ∙ sym (given-printed sum (f .given) o) ∙ ap (callsPrinted sum) (sym (part-next s part from h e))
+
+parts-snoc : (parts : List (List ℕ)) (part : List ℕ) (p : Printed) → partsPrinted p (parts ++ part ∷ []) ≡ partPrinted (partsPrinted p parts) part
+unfolding partsPrinted
+parts-snoc [] part p = refl
+parts-snoc (first ∷ parts) part p = parts-snoc parts part (partPrinted p first)
+
+rowsText-append : (xs ys : List Row) → rowsText (xs ++ ys) ≡ rowsText xs ++ rowsText ys
+unfolding flatten
+rowsText-append [] ys = refl
+rowsText-append (row ∷ xs) ys = ap (λ (t : List ℕ). rowText row ++ t) (rowsText-append xs ys) ∙ sym (append-assoc (rowText row) (rowsText xs) (rowsText ys))
+
+-- the last row's text
+last-text : (g : Given) → rowsText (andThen g []) ≡ givenText g
+unfolding andThen givenText flatten
+last-text Nothing = refl
+last-text (Ended row) = append-nil (rowText row)
+
+rows-printed : (parts : List (List ℕ)) (p : Printed)
+    → checksum (partsPrinted p parts .sum) (givenText (finished (partsPrinted p parts .sheet) .given)) ≡ checksum (p .sum) (rowsText (rowsOfParts (p .sheet) parts))
+unfolding partPrinted partsPrinted rowsOfParts
+rows-printed [] p = ap (checksum (p .sum)) (sym (last-text (finished (p .sheet) .given)))
+rows-printed (part ∷ parts) p =
+    let o = wholePart (p .sheet) part in
+    rows-printed parts (partPrinted p part)
+    ∙ sym (checksum-append (rowsText (o .rows)) (rowsText (rowsOfParts (o .sheet) parts)) (p .sum))
+    ∙ ap (checksum (p .sum)) (sym (rowsText-append (o .rows) (rowsOfParts (o .sheet) parts)))
+
+parts-whole : (parts : List (List ℕ))
+    → checksum (partsPrinted startPrinted parts .sum) (givenText (finished (partsPrinted startPrinted parts .sheet) .given)) ≡ checksum 0 (outputOfParts parts)
+unfolding outputOfParts
+parts-whole parts =
+    rows-printed parts startPrinted
+    ∙ sym (checksum-append header (rowsText (rowsOfParts startSheet parts)) 0)
+    ∙ rw (written-text header, handed-over (rowsOfParts startSheet parts))
+
+-- ---- what the program reads
+
+pub reading-none : {p : Printed} → p ≡ startPrinted → Reading p
+unfolding partsPrinted
+reading-none e = record { parts = []; printed = e }
+
+pub reading-more : {p q : Printed} (part : List ℕ) → Reading p → q ≡ partPrinted p part → Reading q
+reading-more part r e =
+    record {
+      parts = r .parts ++ part ∷ [];
+      printed = e ∙ ap (λ (x : Printed). partPrinted x part) (r .printed) ∙ sym (parts-snoc (r .parts) part startPrinted);
+    }
+
+pub reading-whole : {p : Printed} {last : Fed} {text : Line} {sum : ℕ} → Reading p → last ≡ finished (p .sheet) → text ≡ written (givenText (last .given))
+    → sum ≡ checksum (p .sum) (lineText text)
+    → Whole (record { sheet = last .sheet; sum = sum })
+reading-whole {p} {last} {text} {sum} r e t n =
+    record {
+      parts = r .parts;
+      state = ap (λ (f : Fed). f .sheet) e ∙ ap (λ (x : Printed). finished (x .sheet) .sheet) (r .printed);
+      sum =
+          n
+          ∙ ap (λ (l : Line). checksum (p .sum) (lineText l)) t
+          ∙ ap (checksum (p .sum)) (written-text (givenText (last .given)))
+          ∙ ap (λ (f : Fed). checksum (p .sum) (givenText (f .given))) e
+          ∙ ap (λ (x : Printed). checksum (x .sum) (givenText (finished (x .sheet) .given))) (r .printed)
+          ∙ parts-whole (r .parts);
+    }
