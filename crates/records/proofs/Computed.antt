@@ -8,7 +8,7 @@ use Rattle.layout.specs.Geometry.{layoutOf}
 use Rattle.lines.specs.Texts.{before, split, fieldsOf, sameText}
 use Rattle.lines.specs.Numbers.{isDigit, allDigits, valueAfter, isEmpty, wellBegun, numberOf, andNumber, listed, inTable, numbersOf}
 use Rattle.records.specs.declared.Record.the-variants.{Frame, Stall, Cell, Unreadable}
-use Rattle.records.specs.Records.{frameWord, stallWord, cellWord, shaped, frameOf, stallOf, cellOf, byWord, byFields, recordOf}
+use Rattle.records.specs.Records.{frameWord, stallWord, cellWord, isNamed, byWord, byFields, recordOf}
 use Rattle.records.proofs.LineLaws.{record-long}
 
 -- ---- how a line is written here: its word, then the digits of each number
@@ -48,7 +48,7 @@ pub record Readable : Type 0 where
       ≡ Frame (layoutOf 4294967295 4294967295 4294967295 4294967295 4294967295 4294967295 4294967295)
 
 pub readable : Readable
-unfolding before split fieldsOf sameText isDigit allDigits valueAfter isEmpty wellBegun numberOf andNumber listed inTable numbersOf shaped frameOf stallOf cellOf byWord byFields recordOf
+unfolding before split fieldsOf sameText isDigit allDigits valueAfter isEmpty wellBegun numberOf andNumber listed inTable numbersOf isNamed byWord byFields recordOf
 readable = record { frame = refl; stall = refl; second = refl; cell = refl; greatest = refl; longest = refl }
 
 -- ---- lines that are not
@@ -75,6 +75,6 @@ pub record NotReadable : Type 0 where
   pub long : (bytes : List ℕ) → 120 < length bytes → recordOf bytes ≡ Unreadable
 
 pub not-readable : NotReadable
-unfolding before split fieldsOf sameText isDigit allDigits valueAfter isEmpty wellBegun numberOf andNumber listed inTable numbersOf shaped frameOf stallOf cellOf byWord byFields recordOf
+unfolding before split fieldsOf sameText isDigit allDigits valueAfter isEmpty wellBegun numberOf andNumber listed inTable numbersOf isNamed byWord byFields recordOf
 not-readable =
     record { empty = refl; gap = refl; zero = refl; over = refl; tab = refl; return = refl; missing = refl; extra = refl; colon = refl; long = record-long }

@@ -1,6 +1,6 @@
 -- Records of a sheet (scope paper, "The sheet program"). Another shape, an empty line or one over 120 bytes is unreadable. Assumes nothing.
 use Prim.Native.Nat.{ℕ}
-use mathlib.Core.Bool.{cond}
+use mathlib.Core.Bool.{Bool, cond, _&&_}
 use mathlib.Core.List.{List, [], _∷_}
 use lib.Dec.{leb, eqb}
 use lib.ListN.{length, getD}
@@ -23,28 +23,28 @@ stallWord = 115 ∷ 116 ∷ 97 ∷ 108 ∷ 108 ∷ []
 abbrev pub cellWord : List ℕ
 cellWord = 99 ∷ 101 ∷ 108 ∷ 108 ∷ []
 
--- a record of so many numbers
-unfoldable pub shaped : ℕ → Numbers → Record → Record
-shaped count ns r = cond (eqb (ns .count) count) r Unreadable
-
 abbrev pub at : Numbers → ℕ → ℕ
 at ns i = getD (ns .values) i 0
 
 -- W H C precision line surface start
-unfoldable pub frameOf : Numbers → Record
-frameOf ns = shaped 7 ns (Frame (layoutOf (at ns 0) (at ns 1) (at ns 2) (at ns 3) (at ns 4) (at ns 5) (at ns 6)))
+abbrev pub frameOf : Numbers → Record
+frameOf ns = Frame (layoutOf (at ns 0) (at ns 1) (at ns 2) (at ns 3) (at ns 4) (at ns 5) (at ns 6))
 
 -- slot w0 h0 w h
-unfoldable pub stallOf : Numbers → Record
-stallOf ns = shaped 5 ns (Stall (at ns 0) (at ns 1) (at ns 2) (at ns 3) (at ns 4))
+abbrev pub stallOf : Numbers → Record
+stallOf ns = Stall (at ns 0) (at ns 1) (at ns 2) (at ns 3) (at ns 4)
 
 -- slot c h w
-unfoldable pub cellOf : Numbers → Record
-cellOf ns = shaped 4 ns (Cell (at ns 0) (at ns 1) (at ns 2) (at ns 3))
+abbrev pub cellOf : Numbers → Record
+cellOf ns = Cell (at ns 0) (at ns 1) (at ns 2) (at ns 3)
+
+-- a word is a name, and so many numbers stand behind it
+unfoldable pub isNamed : List ℕ → Numbers → List ℕ → ℕ → Bool
+isNamed word ns name count = eqb (ns .count) count && sameText word name
 
 unfoldable pub byWord : List ℕ → Numbers → Record
 byWord word ns =
-    cond (sameText word frameWord) (frameOf ns) (cond (sameText word stallWord) (stallOf ns) (cond (sameText word cellWord) (cellOf ns) Unreadable))
+    cond (isNamed word ns frameWord 7) (frameOf ns) (cond (isNamed word ns stallWord 5) (stallOf ns) (cond (isNamed word ns cellWord 4) (cellOf ns) Unreadable))
 
 unfoldable pub byFields : List (List ℕ) → Record
 byFields [] = Unreadable

@@ -1,7 +1,7 @@
 // One line of a sheet, read as a record (scope paper, "The sheet program").
 ghost use mathlib.Core.Path.{_≡_};
 ghost use Rattle.lines.specs.Texts.{fieldsOf};
-ghost use Rattle.records.specs.Records.{frameOf, stallOf, cellOf, byWord, byFields, lineRecord, recordOf};
+ghost use Rattle.records.specs.Records.{frameOf, stallOf, cellOf, isNamed, byWord, byFields, lineRecord, recordOf};
 use layout::CubeLayout;
 use lines::Line;
 use lines::Numbers;
@@ -14,13 +14,10 @@ pub enum Record {
     Unreadable,
 }
 
-// A cube's layout: seven numbers.
+// A cube's layout.
 fn frame(ns: Numbers) -> Record
     ensures { λ r. ⌜ r ≡ frameOf ns ⌝ }
 {
-    if ns.count != 7 {
-        return Record::Unreadable;
-    }
     let v = ns.values;
     let layout = CubeLayout {
         width: v[0],
@@ -34,39 +31,43 @@ fn frame(ns: Numbers) -> Record
     Record::Frame(layout)
 }
 
-// A region: five numbers.
+// A region.
 fn stall(ns: Numbers) -> Record
     ensures { λ r. ⌜ r ≡ stallOf ns ⌝ }
 {
-    if ns.count != 5 {
-        return Record::Unreadable;
-    }
     let v = ns.values;
     Record::Stall(v[0], v[1], v[2], v[3], v[4])
 }
 
-// An element of a region: four numbers.
+// An element of a region.
 fn cell(ns: Numbers) -> Record
     ensures { λ r. ⌜ r ≡ cellOf ns ⌝ }
 {
-    if ns.count != 4 {
-        return Record::Unreadable;
-    }
     let v = ns.values;
     Record::Cell(v[0], v[1], v[2], v[3])
+}
+
+// Whether a word is a name, and so many numbers stand behind it.
+fn is_named(word: &[u8], ns: Numbers, name: &[u8], count: usize) -> bool
+    ensures { λ r. ⌜ r ≡ isNamed (now (word .entry)) ns (now (name .entry)) count ⌝ }
+{
+    if ns.count != count {
+        return false;
+    }
+    lines::same(word, name)
 }
 
 // The record of a word and the numbers behind it.
 fn by_word(word: &[u8], ns: Numbers) -> Record
     ensures { λ r. ⌜ r ≡ byWord (now (word .entry)) ns ⌝ }
 {
-    if lines::same(word, b"frame") {
+    if is_named(word, ns, b"frame", 7) {
         return frame(ns);
     }
-    if lines::same(word, b"stall") {
+    if is_named(word, ns, b"stall", 5) {
         return stall(ns);
     }
-    if lines::same(word, b"cell") {
+    if is_named(word, ns, b"cell", 4) {
         return cell(ns);
     }
     Record::Unreadable

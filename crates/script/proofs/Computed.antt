@@ -15,7 +15,7 @@ use Rattle.regions.specs.Calls.{placeAnswer, placeTable}
 use Rattle.lines.specs.Texts.{before, split, fieldsOf, withoutEmptyLast, linesOf, partLength, sameText}
 use Rattle.lines.specs.Numbers.{isDigit, allDigits, valueAfter as digitsAfter, isEmpty, wellBegun, numberOf, andNumber, listed, inTable, numbersOf}
 use Rattle.lines.specs.Collecting.{withByte, added, lineText, nextLines, collected}
-use Rattle.records.specs.Records.{frameWord, stallWord, cellWord, shaped, frameOf, stallOf, cellOf, byWord, byFields, recordOf, lineRecord}
+use Rattle.records.specs.Records.{frameWord, stallWord, cellWord, isNamed, byWord, byFields, recordOf, lineRecord}
 use Rattle.lines.specs.Digits.{leadingIn, digits, numeral}
 use Rattle.script.specs.declared.Row.{Row}
 use Rattle.script.specs.Output.{header, fieldsText, rowText, output}
@@ -87,5 +87,5 @@ pub record Computed : Type 0 where
   pub none : printed [] ≡ []
 
 pub computed : Computed
-unfolding requireAt inOrder leaves elementBytes surfaces elementPosition cubeExtent spanInside spanHas sizeValid sizesValid wholeAtoms stridesValid layoutChecks slotOf slotsOf rectangleHas occupied anyFrom overlaps rectangleInside slotAt isFilled rectangleOf placeChecks boxInRectangle slotChecks regionBoxChecks placeAnswer placeTable before split fieldsOf withoutEmptyLast linesOf partLength sameText isDigit allDigits digitsAfter isEmpty wellBegun numberOf andNumber listed inTable numbersOf withByte added lineText nextLines collected shaped frameOf stallOf cellOf byWord byFields recordOf lineRecord framedOr recordAnswer recordValue recordDone valueAfter deskAfter rowOf rowsAfter sheet startSheet lineEnded lineRow fed finished andThen partFed rowsOfParts output rowText fieldsText digits leadingIn numeral flatten
+unfolding requireAt inOrder leaves elementBytes surfaces elementPosition cubeExtent spanInside spanHas sizeValid sizesValid wholeAtoms stridesValid layoutChecks slotOf slotsOf rectangleHas occupied anyFrom overlaps rectangleInside slotAt isFilled rectangleOf placeChecks boxInRectangle slotChecks regionBoxChecks placeAnswer placeTable before split fieldsOf withoutEmptyLast linesOf partLength sameText isDigit allDigits digitsAfter isEmpty wellBegun numberOf andNumber listed inTable numbersOf withByte added lineText nextLines collected isNamed byWord byFields recordOf lineRecord framedOr recordAnswer recordValue recordDone valueAfter deskAfter rowOf rowsAfter sheet startSheet lineEnded lineRow fed finished andThen partFed rowsOfParts output rowText fieldsText digits leadingIn numeral flatten
 computed = record { text = refl; session = refl; ended = refl; refused = refl; emptied = refl; corner = refl; parts = refl; none = refl }

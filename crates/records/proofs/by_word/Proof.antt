@@ -1,49 +1,48 @@
--- `records::by_word` meets its contract: the first word that is the same names the shape. Assumes nothing.
+-- `records::by_word` meets its contract: the first name that the word is, with its count of numbers, is the record's. Assumes nothing.
 use mathlib.Core.Path.{_≡_, sym, _∙_}
 use mathlib.Core.Bool.{false}
-use Rattle.lines.specs.Texts.{sameText}
-use Rattle.records.specs.Records.{frameWord, stallWord, byWord}
+use Rattle.records.specs.Records.{frameWord, stallWord, isNamed, byWord}
 use borrow.Author.Needs.{needs}
 use Rattle.records.proofs.by_word.Statement.{statement}
 use Rattle.records.proofs.by_word.Tie as tie
 
-slice-aggregate-same : tie.Need-slice-aggregate-same
-slice-aggregate-same c = search needs
+slice-aggregate-is-named : tie.Need-slice-aggregate-is-named
+slice-aggregate-is-named c = search needs
 
-same-requires : tie.Need-same-requires
-same-requires c κs = search needs
+is-named-requires : tie.Need-is-named-requires
+is-named-requires c κs = search needs
 
 frame-requires : tie.Need-frame-requires
 frame-requires c κs = search needs
 
 returns : tie.Need-returns
 unfolding byWord
-returns c = c .frame .ensures ∙ rw (sym (c .before .before .same .ensures) ∙ c .before .if1 .taken)
+returns c = c .frame .ensures ∙ rw (sym (c .before .before .is-named .ensures) ∙ c .before .if1 .taken)
 
-no-frame : (c : tie.Else1) → sameText (c .before .before .before .before .args .word .now) frameWord ≡ false
-no-frame c = sym (c .before .same .ensures) ∙ c .if1 .left
+no-frame : (c : tie.Else1) → isNamed (c .before .before .before .before .args .word .now) (c .before .before .before .before .args .ns) frameWord 7 ≡ false
+no-frame c = sym (c .before .is-named .ensures) ∙ c .if1 .left
 
-slice-aggregate-same-2 : tie.Need-slice-aggregate-same-2
-slice-aggregate-same-2 c = search needs
+slice-aggregate-is-named-2 : tie.Need-slice-aggregate-is-named-2
+slice-aggregate-is-named-2 c = search needs
 
-same-requires-2 : tie.Need-same-requires-2
-same-requires-2 c κs = search needs
+is-named-requires-2 : tie.Need-is-named-requires-2
+is-named-requires-2 c κs = search needs
 
 stall-requires : tie.Need-stall-requires
 stall-requires c κs = search needs
 
 returns-2 : tie.Need-returns-2
 unfolding byWord
-returns-2 c = c .stall .ensures ∙ rw (no-frame (c .before .before .before .before), sym (c .before .before .same2 .ensures) ∙ c .before .if2 .taken)
+returns-2 c = c .stall .ensures ∙ rw (no-frame (c .before .before .before .before), sym (c .before .before .is-named2 .ensures) ∙ c .before .if2 .taken)
 
-no-stall : (c : tie.Else2) → sameText (c .before .before .before .before .before .before .before .args .word .now) stallWord ≡ false
-no-stall c = sym (c .before .same2 .ensures) ∙ c .if2 .left
+no-stall : (c : tie.Else2) → isNamed (c .before .before .before .before .before .before .before .args .word .now) (c .before .before .before .before .before .before .before .args .ns) stallWord 5 ≡ false
+no-stall c = sym (c .before .is-named2 .ensures) ∙ c .if2 .left
 
-slice-aggregate-same-3 : tie.Need-slice-aggregate-same-3
-slice-aggregate-same-3 c = search needs
+slice-aggregate-is-named-3 : tie.Need-slice-aggregate-is-named-3
+slice-aggregate-is-named-3 c = search needs
 
-same-requires-3 : tie.Need-same-requires-3
-same-requires-3 c κs = search needs
+is-named-requires-3 : tie.Need-is-named-requires-3
+is-named-requires-3 c κs = search needs
 
 cell-requires : tie.Need-cell-requires
 cell-requires c κs = search needs
@@ -52,28 +51,28 @@ returns-3 : tie.Need-returns-3
 unfolding byWord
 returns-3 c =
     let e = c .before .before .before .before in
-    c .cell .ensures ∙ rw (no-frame (e .before .before .before), no-stall e, sym (c .before .before .same3 .ensures) ∙ c .before .if3 .taken)
+    c .cell .ensures ∙ rw (no-frame (e .before .before .before), no-stall e, sym (c .before .before .is-named3 .ensures) ∙ c .before .if3 .taken)
 
 returns-4 : tie.Need-returns-4
 unfolding byWord
 returns-4 c =
     let e = c .before .before .before in
-    rw (no-frame (e .before .before .before), no-stall e, sym (c .before .same3 .ensures) ∙ c .if3 .left)
+    rw (no-frame (e .before .before .before), no-stall e, sym (c .before .is-named3 .ensures) ∙ c .if3 .left)
 
 pub by-word-spec : {M : Type 1} → statement M
 by-word-spec =
     tie.close
     (tie.spec
-    slice-aggregate-same
-    same-requires
+    slice-aggregate-is-named
+    is-named-requires
     frame-requires
     returns
-    slice-aggregate-same-2
-    same-requires-2
+    slice-aggregate-is-named-2
+    is-named-requires-2
     stall-requires
     returns-2
-    slice-aggregate-same-3
-    same-requires-3
+    slice-aggregate-is-named-3
+    is-named-requires-3
     cell-requires
     returns-3
     returns-4)
