@@ -49,11 +49,12 @@ def ranged(pattern, base, low, high):
 
 
 natural = ranged("[0-9]+", 10, 0, cube.U32_MAX)
+position = ranged("[0-9]+", 10, 0, (1 << 61) - (1 << 31) - 1)
 signed = ranged("-?[0-9]+", 10, S32_MIN, 2147483647)
 element = ranged("-?[0-9]+", 10, -32768, 32767)
 byte = ranged("[0-9a-fA-F]{2}", 16, 0, 255)
 
-KINDS = {"n": natural, "s": signed, "e": element, "b": byte}
+KINDS = {"n": natural, "p": position, "s": signed, "e": element, "b": byte}
 MEMBERS = {"elements": element, "buffer": byte, "samples": signed}
 
 
@@ -160,6 +161,7 @@ COMMANDS = {
     "ready": ("snnn", SETTINGS, SETTINGS),
     "lookup": ("nnn", {"counters"}, SETTINGS | {"elements", "samples", "counters"}),
     "sheet": ("", set(), {"buffer"}),
+    "whose": ("n" * 7 + "p", set(), set()),
 }
 
 
@@ -316,6 +318,8 @@ class Board:
             answer = cube.position(cube.CubeLayout(*given[:7]), *given[7:])
         elif name == "extent":
             answer = cube.extent(cube.CubeLayout(*given))
+        elif name == "whose":
+            answer = cube.whose(cube.CubeLayout(*given[:7]), given[7])
         elif name == "convert":
             code, index, value = quantize.quantize(*given)
             answer = code, index, 0 if code else value
@@ -353,12 +357,12 @@ class Board:
             self.settings = settings
         return [f"{code} {index}"]
 
-    def lookup(self, split, count, seed):
+    def lookup(self, split, count, before):
         """`lookup`."""
         entries = self.lists["elements"]
         if split > len(entries) or count > OUTPUTS_MAX:
             raise Unreadable
-        outputs = drawn("samples", count, seed)
+        outputs = [wrapped(before, S32_MIN, 4294967296)] * count
         code, index, outputs, self.counters = lut.run(self.settings, entries[:split], entries[split:],
                                                       self.lists["samples"], outputs, self.counters)
         head = " ".join(map(str, (code, index, *self.counters)))
@@ -367,10 +371,10 @@ class Board:
     # --- sheets ---
 
     def sheet(self):
-        """`sheet`: the rows, and that no cut in two changes them."""
+        """`sheet`: what the sheet program prints, and that no cut in two changes it."""
         source = self.lists["buffer"]
         cuts = len(source) + 1 if len(source) <= CUTS_MAX else CUTS_MAX
-        return [sheet.row_text(row).rstrip("\n") for row in sheet.rows(source)], f"same cuts {cuts}"
+        return sheet.text(source).split("\n")[:-1], f"same cuts {cuts}"
 
     # --- lines ---
 

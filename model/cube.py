@@ -53,6 +53,29 @@ def atom_positions(q):
         yield q.start + s * q.surface + h * q.line + w * ATOM
 
 
+def byte_owner(q, p):
+    """Whose byte p is: ("element", c, h, w, byte), ("padding",), ("gap",) or ("outside",).
+
+    Byte p is byte b of element (c, h, w) if it is at the element's position
+    plus b. Of one atom's 32 bytes only those channels can be it that its
+    surface holds; so each surface, row and column whose atom covers p is tried.
+    """
+    e = element_bytes(q)
+    if not q.start <= p < q.start + extent_bytes(q):
+        return ("outside",)
+    for s in range(surface_count(q)):
+        h, rest = divmod(p - q.start - s * q.surface, q.line)
+        w = rest // ATOM
+        if not (0 <= h < q.height and w < q.width):
+            continue
+        per_atom = ATOM // e
+        for c, b in product(range(s * per_atom, min((s + 1) * per_atom, q.channels)), range(e)):
+            if element_position(q, c, h, w) + b == p:
+                return ("element", c, h, w, b)
+        return ("padding",)
+    return ("gap",)
+
+
 def whole_box(q):
     """The box that is the whole cube."""
     return Box(0, 0, 0, q.channels, q.height, q.width)
@@ -203,3 +226,9 @@ def extent(q):
     """Extent of a layout: (code, 0, bytes without the start); order 1 to 4."""
     code = layout_code(q)
     return code, 0, 0 if code else extent_bytes(q)
+
+
+def whose(q, p):
+    """`whose`: the owner's word and numbers; none if refused."""
+    code = layout_code(q)
+    return (code, 0) if code else (0, 0, *byte_owner(q, p))

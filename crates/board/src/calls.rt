@@ -1,5 +1,6 @@
 // The calls on cubes, weights and regions, from the numbers of a line; and those that answer a value.
 use crate::line::natural;
+use crate::line::position;
 use crate::line::short;
 use crate::line::signed;
 use crate::numbers::of_short;
@@ -7,6 +8,8 @@ use crate::print::end_line;
 use crate::print::print_answer;
 use crate::print::print_natural;
 use crate::print::print_signed;
+use crate::print::print_text;
+use layout::ByteOwner;
 use layout::CubeLayout;
 use quantize::Quantized;
 use refusal::Answer;
@@ -75,33 +78,16 @@ fn pixel_setting(n: [u64; 16]) -> pixels::PixelSetting {
     }
 }
 
-// `pack`, `write`, `unpack`; any other counts as `read`.
-fn on_cube(command: u32, n: [u64; 16], elements: &mut [i16], buffer: &mut [u8]) -> Answer {
-    let q = cube_layout(n);
-    let b = box_at(n, 7);
-    match command {
-        21 => cube::pack(q, elements, buffer),
-        22 => cube::write_box(q, b, elements, buffer),
-        25 => cube::unpack(q, buffer, elements),
-        _ => cube::read_box(q, b, buffer, elements),
-    }
-}
-
-// `pack_weights`; any other counts as `unpack_weights`.
-fn on_weights(command: u32, n: [u64; 16], elements: &mut [i16], buffer: &mut [u8]) -> Answer {
-    let q = weight_layout(n);
-    if command == 23 {
-        return weights::pack(q, elements, buffer);
-    }
-    weights::unpack(q, buffer, elements)
-}
-
-// A call on a cube or on weights.
+// A call on a cube or on weights: `pack`, `write`, `pack_weights`, `unpack`, `read`; any other counts as `unpack_weights`.
 fn on_packed(command: u32, n: [u64; 16], elements: &mut [i16], buffer: &mut [u8]) -> Answer {
-    if command == 23 || command == 27 {
-        return on_weights(command, n, elements, buffer);
+    match command {
+        21 => cube::pack(cube_layout(n), elements, buffer),
+        22 => cube::write_box(cube_layout(n), box_at(n, 7), elements, buffer),
+        23 => weights::pack(weight_layout(n), elements, buffer),
+        25 => cube::unpack(cube_layout(n), buffer, elements),
+        26 => cube::read_box(cube_layout(n), box_at(n, 7), buffer, elements),
+        _ => weights::unpack(weight_layout(n), buffer, elements),
     }
-    on_cube(command, n, elements, buffer)
 }
 
 // The table with numbers 1 to 5, `placed w0 h0 w h`, put in the slot of number 0 by hand; a slot above 15 changes nothing.
@@ -117,32 +103,22 @@ fn with_slot(n: [u64; 16], table: RegionTable) -> RegionTable {
     t
 }
 
-// The table with a layout put in by hand.
-fn with_layout(n: [u64; 16], table: RegionTable) -> RegionTable {
+// `desk`, `hand slot`, `hand layout`: the table after each, which nothing refuses; any other leaves it.
+fn made(command: u32, n: [u64; 16], table: RegionTable) -> RegionTable {
     let mut t = table;
-    t.layout = cube_layout(n);
+    match command {
+        29 => t = regions::empty(cube_layout(n)),
+        31 => t = with_slot(n, table),
+        32 => t.layout = cube_layout(n),
+        _ => {}
+    }
     t
 }
 
-// `desk`, `hand slot`, `hand layout`: the table after each, which nothing refuses; any other leaves it.
-fn made(command: u32, n: [u64; 16], table: RegionTable) -> RegionTable {
-    match command {
-        29 => regions::empty(cube_layout(n)),
-        31 => with_slot(n, table),
-        32 => with_layout(n, table),
-        _ => table,
-    }
-}
-
-// `place`: numbers 0 to 4, `slot w0 h0 w h`.
-fn place(n: [u64; 16], table: RegionTable) -> Outcome {
-    regions::place(table, natural(n, 0), rectangle_at(n, 1))
-}
-
-// The calls from 29 to 33, which look at no list: `desk`, `place`, by hand, `pixel setting`.
-pub fn call_apart(command: u32, n: [u64; 16], table: RegionTable) -> Outcome {
-    match command {
-        30 => place(n, table),
+// The calls from 29 to 33, which look at no list: `desk`, `place`, by hand, `pixel setting`. Prints the answer; the table after it.
+pub fn call_apart(line: u64, command: u32, n: [u64; 16], table: RegionTable) -> RegionTable {
+    let outcome = match command {
+        30 => regions::place(table, natural(n, 0), rectangle_at(n, 1)),
         33 => Outcome {
             answer: pixels::setting(pixel_setting(n)),
             table: table,
@@ -151,7 +127,11 @@ pub fn call_apart(command: u32, n: [u64; 16], table: RegionTable) -> Outcome {
             answer: Answer::Accepted,
             table: made(command, n, table),
         },
-    }
+    };
+    let answer = outcome.answer;
+    print_answer(line, answer);
+    end_line();
+    outcome.table
 }
 
 // The calls from 21 to 28, on elements and buffer.
@@ -202,6 +182,23 @@ fn print_quantized(line: u64, q: Quantized) {
     }
 }
 
+// Line number, code and fault index, and whose a byte is: an element's channel, row, column and byte, or a word.
+fn print_owner(line: u64, owner: ByteOwner) {
+    match owner {
+        ByteOwner::Element(c, h, w, b) => {
+            print_text(line, b" 0 0 element");
+            print_natural(c as u64);
+            print_natural(h as u64);
+            print_natural(w as u64);
+            print_natural(b as u64);
+        }
+        ByteOwner::Padding => print_text(line, b" 0 0 padding"),
+        ByteOwner::Gap => print_text(line, b" 0 0 gap"),
+        ByteOwner::Outside => print_text(line, b" 0 0 outside"),
+        ByteOwner::Refused(r, at) => print_answer(line, Answer::Refused(r, at)),
+    }
+}
+
 // `convert`: numbers `d offset SF shift precision`.
 fn convert(n: [u64; 16]) -> Quantized {
     quantize::convert(
@@ -213,7 +210,7 @@ fn convert(n: [u64; 16]) -> Quantized {
     )
 }
 
-// The answer of a command from 34 to 39, with its value: positions, extent, conversion, curve entries.
+// The answer of a command from 34 to 39, or of `whose`, with its value: positions, extent, conversion, curve entries, a byte's owner.
 pub fn print_value(line: u64, command: u32, n: [u64; 16]) {
     match command {
         34 => print_quantity(
@@ -227,6 +224,7 @@ pub fn print_value(line: u64, command: u32, n: [u64; 16]) {
         ),
         37 => print_quantized(line, convert(n)),
         38 => print_quantized(line, Quantized::Value(camera::x_entry(natural(n, 0)))),
+        48 => print_owner(line, layout::whose(cube_layout(n), position(n, 7))),
         _ => print_quantized(line, Quantized::Value(camera::y_entry(natural(n, 0)))),
     }
     end_line();

@@ -5,7 +5,6 @@ use crate::numbers::of_signed;
 use crate::numbers::short;
 use crate::numbers::signed;
 use crate::print::end_line;
-use crate::print::print_end;
 use crate::print::print_item;
 use crate::print::print_natural;
 
@@ -80,7 +79,14 @@ fn next(source: Source) -> Source {
 }
 
 // Puts a number at index i of a list, if there is one.
-fn put(list: u32, i: usize, v: u64, elements: &mut [i16], buffer: &mut [u8], samples: &mut [i32]) {
+pub fn put(
+    list: u32,
+    i: usize,
+    v: u64,
+    elements: &mut [i16],
+    buffer: &mut [u8],
+    samples: &mut [i32],
+) {
     match list {
         0 => {
             if i < elements.len() {
@@ -146,12 +152,17 @@ fn at(list: u32, i: usize, elements: &[i16], buffer: &[u8], samples: &[i32]) -> 
     }
 }
 
-// A checksum with one number more, which is printed if `shown`.
-fn told(sum: u64, list: u32, i: usize, v: u64, shown: bool) -> u64 {
+// A checksum with one number more, which is printed if `shown`; `ends` says whether it is the last of its line.
+fn told(sum: u64, list: u32, ends: bool, v: u64, shown: bool) -> u64 {
     if shown {
-        print_item(list == 1, i, v);
+        print_item(list == 1, ends, v);
     }
     (sum % 4294967296 * 65599 + v % 4294967296 + 1) % 4294967296
+}
+
+// Whether the i-th number of so many is the last of its line, which has 32.
+fn is_last(i: usize, count: usize) -> bool {
+    i % 32 == 0 || i == count
 }
 
 // How many members a list has.
@@ -170,11 +181,8 @@ pub fn tell(list: u32, shown: bool, elements: &[i16], buffer: &[u8], samples: &[
     let mut i = 0;
     while i < count {
         let v = at(list, i, elements, buffer, samples);
-        sum = told(sum, list, i, v, shown);
         i += 1;
-    }
-    if shown {
-        print_end(count);
+        sum = told(sum, list, is_last(i, count), v, shown);
     }
     sum
 }

@@ -5,13 +5,12 @@ ghost use lib.ListN.{length};
 use crate::line::natural;
 use crate::line::short;
 use crate::line::signed;
-use crate::lists::Source;
-use crate::lists::draw;
 use crate::lists::tell_left;
 use crate::print::end_line;
 use crate::print::print_answer;
 use crate::print::print_natural;
 use crate::state::State;
+use camera::Ready;
 use lut::Counters;
 use lut::LutSettings;
 use lut::Table;
@@ -68,34 +67,50 @@ fn choice_at(n: [u64; 16], k: usize) -> camera::Choice {
     }
 }
 
-// The settings with the bits of numbers 0 to 2, `priority overflow underflow`.
-fn with_bits(n: [u64; 16], x: XSettings, y: YSettings) -> LutSettings {
+// The settings by the numbers of a line, which is read as one of X, one of Y and one of the bits, `priority overflow underflow`; each part comes from its own line.
+fn by_numbers(n: [u64; 16], mode: XMode) -> LutSettings {
     LutSettings {
-        x,
-        y,
+        x: x_settings(n, mode),
+        y: y_settings(n),
         priority: table_at(n, 0),
         overflow: table_at(n, 1),
         underflow: table_at(n, 2),
     }
 }
 
-// The settings of a line of zeros.
-pub fn settings_of(n: [u64; 16]) -> LutSettings {
-    with_bits(n, x_settings(n, XMode::Linear(0)), y_settings(n))
+// `ready s priority overflow underflow`.
+fn ready(n: [u64; 16]) -> Ready {
+    camera::ready_made(
+        signed(n, 0),
+        choice_at(n, 1),
+        choice_at(n, 2),
+        choice_at(n, 3),
+    )
 }
 
-// `x linear`, `x exponential`, `y`, `bits`: the settings after each; any other leaves them.
-fn settings_after(command: u32, n: [u64; 16], before: LutSettings) -> LutSettings {
-    let x = before.x;
-    let y = before.y;
-    let mut s = before;
-    match command {
-        40 => s.x = x_settings(n, XMode::Linear(signed(n, 0))),
-        41 => s.x = x_settings(n, XMode::Exponential(signed(n, 0))),
-        42 => s.y = y_settings(n),
-        43 => s = with_bits(n, x, y),
-        _ => {}
+// The settings by a line, whose command is its last number.
+fn by_line(n: [u64; 16]) -> LutSettings {
+    let made = ready(n);
+    let linear = by_numbers(n, XMode::Linear(signed(n, 0)));
+    match n[15] {
+        41 => by_numbers(n, XMode::Exponential(signed(n, 0))),
+        45 => match made {
+            Ready::Setting(settings) => settings,
+            Ready::Refused(_, _) => linear,
+        },
+        _ => linear,
     }
+}
+
+// The settings by the lines that set X, Y and the bits.
+fn settings_of(of_x: [u64; 16], of_y: [u64; 16], of_bits: [u64; 16]) -> LutSettings {
+    let first = by_line(of_x);
+    let second = by_line(of_y);
+    let x = first.x;
+    let y = second.y;
+    let mut s = by_line(of_bits);
+    s.x = x;
+    s.y = y;
     s
 }
 
@@ -110,39 +125,36 @@ pub fn counters_of(n: [u64; 16]) -> Counters {
     }
 }
 
-// `ready s priority overflow underflow`: prints the answer; a refused one leaves the settings.
-fn ready(line: u64, n: [u64; 16], before: LutSettings) -> LutSettings {
-    let made = camera::ready_made(
-        signed(n, 0),
-        choice_at(n, 1),
-        choice_at(n, 2),
-        choice_at(n, 3),
-    );
-    match made {
-        camera::Ready::Setting(settings) => {
-            print_answer(line, Answer::Accepted);
-            end_line();
-            settings
-        }
-        camera::Ready::Refused(r, at) => {
-            print_answer(line, Answer::Refused(r, at));
-            end_line();
-            before
-        }
-    }
+// The answer of `ready`, which is printed; whether it is accepted.
+fn is_ready(line: u64, n: [u64; 16]) -> bool {
+    let answer = match ready(n) {
+        Ready::Setting(_) => Answer::Accepted,
+        Ready::Refused(r, at) => Answer::Refused(r, at),
+    };
+    print_answer(line, answer);
+    end_line();
+    refusal::answer_code(answer) == 0
 }
 
 // The state after a command from 40 to 45.
 pub fn set(state: State) -> State {
     let line = state.line;
-    let n = line.numbers;
     let command = line.command;
-    let before = state.settings;
+    let mut n = line.numbers;
+    n[15] = command as u64;
     let mut s = state;
     match command {
+        40..=41 => s.x = n,
+        42 => s.y = n,
+        43 => s.bits = n,
         44 => s.counters = counters_of(n),
-        45 => s.settings = ready(line.number, n, before),
-        _ => s.settings = settings_after(command, n, before),
+        _ => {
+            if is_ready(line.number, n) {
+                s.x = n;
+                s.y = n;
+                s.bits = n;
+            }
+        }
     }
     s
 }
@@ -168,17 +180,6 @@ fn run_split(
     )
 }
 
-// The outputs before the run: drawn from a seed, of all numbers.
-fn any_from(seed: u32) -> Source {
-    Source {
-        curves: false,
-        state: seed,
-        base: 2147483648,
-        span: 0,
-        step: 0,
-    }
-}
-
 // The five counters.
 fn print_counters(c: Counters) {
     print_natural(c.x as u64);
@@ -188,51 +189,51 @@ fn print_counters(c: Counters) {
     print_natural(c.priority as u64);
 }
 
-// A run over the outputs, which are drawn before it; `of` has the samples.
+// Room for samples or outputs, all v.
+pub fn all_samples(v: i32) -> [i32; 65536]
+    ensures { λ r. ⌜ 65536 ≡ length r ⌝ }
+{
+    [v; 65536]
+}
+
+// A run over the outputs, which is printed; `of` has the samples. The counters after it.
 fn run_over(
     state: State,
-    elements: &mut [i16],
-    buffer: &mut [u8],
+    elements: &[i16],
+    buffer: &[u8],
     of: &[i32],
     outputs: &mut [i32],
-) -> State {
+) -> Counters {
     let line = state.line;
     let n = line.numbers;
-    draw(
-        2,
-        0,
-        outputs.len(),
-        any_from(natural(n, 2)),
-        elements,
-        buffer,
-        outputs,
-    );
-    let settings = state.settings;
+    let x = state.x;
+    let y = state.y;
+    let bits = state.bits;
     let before = state.counters;
     let split = crate::held(natural(n, 0) as usize, elements.len());
-    let outcome = run_split(settings, before, split, elements, of, outputs);
+    let outcome = run_split(
+        settings_of(x, y, bits),
+        before,
+        split,
+        elements,
+        of,
+        outputs,
+    );
     let answer = outcome.answer;
     let counters = outcome.counters;
     print_answer(line.number, answer);
     print_counters(counters);
     tell_left(2, state.sums, elements, buffer, outputs);
-    let mut s = state;
-    s.counters = counters;
-    s
+    counters
 }
 
-// Room for samples or outputs, all 0.
-pub fn zero_samples() -> [i32; 65536]
-    ensures { λ r. ⌜ 65536 ≡ length r ⌝ }
-{
-    [0; 65536]
-}
-
-// `lookup X M seed`: a run over M outputs, at most 65536; the first X entries are X's.
-pub fn run(state: State, elements: &mut [i16], buffer: &mut [u8], samples: &[i32]) -> State {
+// `lookup X M v`: a run over M outputs, at most 65536, which are v before it; the first X entries are X's.
+pub fn run(state: State, elements: &[i16], buffer: &[u8], samples: &[i32]) -> State {
     let line = state.line;
     let n = line.numbers;
     let m = crate::held(natural(n, 1) as usize, 65536);
-    let mut outputs = zero_samples();
-    run_over(state, elements, buffer, samples, &mut outputs[..m])
+    let mut outputs = all_samples(signed(n, 2));
+    let mut s = state;
+    s.counters = run_over(state, elements, buffer, samples, &mut outputs[..m]);
+    s
 }

@@ -55,11 +55,7 @@ fn with_count(state: State, list: u32, count: usize) -> State {
 }
 
 // Whether the counts and the index of a line are within their limits.
-fn is_within(state: State) -> bool {
-    let line = state.line;
-    let numbers = line.numbers;
-    let command = line.command;
-    let counts = state.counts;
+fn is_within(command: u32, numbers: [u64; 16], counts: [usize; 3]) -> bool {
     let n = natural(numbers, 0) as usize;
     let most = lists::room(list_of(command));
     match command {
@@ -130,28 +126,6 @@ fn call(state: State, elements: &mut [i16], buffer: &mut [u8], samples: &[i32]) 
     s
 }
 
-// A call that looks at no list; prints its answer.
-fn call_apart(state: State) -> State {
-    let line = state.line;
-    let n = line.numbers;
-    let before = state.table;
-    let outcome = calls::call_apart(line.command, n, before);
-    let answer = outcome.answer;
-    let table = outcome.table;
-    print::print_answer(line.number, answer);
-    print::end_line();
-    let mut s = state;
-    s.table = table;
-    s
-}
-
-// `set element`: element i, if there is one.
-fn set_element(i: usize, v: u64, elements: &mut [i16]) {
-    if i < elements.len() {
-        elements[i] = numbers::short(v);
-    }
-}
-
 // A command on what is lent.
 fn run_lent(state: State, elements: &mut [i16], buffer: &mut [u8], samples: &mut [i32]) -> State {
     let line = state.line;
@@ -159,7 +133,8 @@ fn run_lent(state: State, elements: &mut [i16], buffer: &mut [u8], samples: &mut
     let command = line.command;
     match command {
         12 => {
-            set_element(natural(numbers, 0) as usize, numbers[1], elements);
+            let i = natural(numbers, 0) as usize;
+            lists::put(0, i, numbers[1], elements, buffer, samples);
             state
         }
         15..=20 => {
@@ -194,51 +169,27 @@ fn run_apart(state: State) -> State {
     let line = state.line;
     let numbers = line.numbers;
     let command = line.command;
+    let table = state.table;
     let mut s = state;
     match command {
         13 => s.sums = false,
         14 => s.sums = true,
-        29..=33 => s = call_apart(state),
-        34..=39 => calls::print_value(line.number, command, numbers),
+        29..=33 => s.table = calls::call_apart(line.number, command, numbers, table),
+        34..=39 | 48 => calls::print_value(line.number, command, numbers),
         _ => s = lookup::set(state),
     }
     s
 }
 
-// Whether a command looks at no list.
-fn is_apart(command: u32) -> bool {
-    match command {
-        13..=14 | 29..=45 => true,
-        _ => false,
-    }
-}
-
 // A command that can be made.
 fn run_made(state: State, elements: &mut [i16], buffer: &mut [u8], samples: &mut [i32]) -> State {
     let line = state.line;
-    if line.command < 12 {
-        return lend(state, elements, buffer, samples);
+    let command = line.command;
+    match command {
+        0..=11 => lend(state, elements, buffer, samples),
+        13..=14 | 29..=45 | 48 => run_apart(state),
+        _ => run_on(state, elements, buffer, samples),
     }
-    if is_apart(line.command) {
-        return run_apart(state);
-    }
-    run_on(state, elements, buffer, samples)
-}
-
-// The state after a line that is made: what it set is no longer spoilt.
-fn mended(state: State) -> State {
-    let line = state.line;
-    let mut s = state;
-    s.spoilt = s.spoilt & (255 ^ commands::sets(line.command));
-    s
-}
-
-// The state after a line that is not made: what it would have set is spoilt.
-fn spoiled(state: State) -> State {
-    let line = state.line;
-    let mut s = state;
-    s.spoilt = s.spoilt | commands::sets(line.command);
-    s
 }
 
 // Whether a line is empty or a comment.
@@ -246,33 +197,59 @@ fn is_silent(line: Line) -> bool {
     line.phase == line::BEGINNING || line.phase == line::COMMENT
 }
 
-// A line that ended.
-fn run_line(state: State, elements: &mut [i16], buffer: &mut [u8], samples: &mut [i32]) -> State {
-    let line = state.line;
+// What becomes of a line: it says nothing, it is not made, which is printed, or it is made.
+const SILENT: u32 = 0;
+
+const NOT_MADE: u32 = 1;
+
+const MADE: u32 = 2;
+
+fn judged(line: Line, counts: [usize; 3], spoilt: u32) -> u32 {
+    let numbers = line.numbers;
     if is_silent(line) {
-        return state;
+        return SILENT;
     }
-    if !line::is_whole(line) {
-        print::print_text(line.number, b" unreadable\n");
-        return spoiled(state);
-    }
-    if state.spoilt & commands::uses(line.command) != 0 {
+    let whole = line::is_whole(line);
+    if whole && spoilt & commands::uses(line.command) != 0 {
         print::print_text(line.number, b" not made\n");
-        return spoiled(state);
+        return NOT_MADE;
     }
-    if !is_within(state) {
-        print::print_text(line.number, b" unreadable\n");
-        return spoiled(state);
+    if whole && is_within(line.command, numbers, counts) {
+        return MADE;
     }
-    mended(run_made(state, elements, buffer, samples))
+    print::print_text(line.number, b" unreadable\n");
+    NOT_MADE
+}
+
+// What is spoilt after a line: no longer what it set; and what it would have set, if it is not made.
+fn spoilt_after(verdict: u32, spoilt: u32, command: u32) -> u32 {
+    let bits = commands::sets(command);
+    match verdict {
+        SILENT => spoilt,
+        NOT_MADE => spoilt | bits,
+        _ => spoilt & (255 ^ bits),
+    }
 }
 
 // The state at the beginning of the next line.
-fn next_line(state: State) -> State {
+fn next_line(state: State, spoilt: u32) -> State {
     let line = state.line;
     let mut s = state;
     s.line = line::new_line(wrapping_add_u64(line.number, 1));
+    s.spoilt = spoilt;
     s
+}
+
+// A line that ended.
+fn run_line(state: State, elements: &mut [i16], buffer: &mut [u8], samples: &mut [i32]) -> State {
+    let line = state.line;
+    let counts = state.counts;
+    let verdict = judged(line, counts, state.spoilt);
+    let spoilt = spoilt_after(verdict, state.spoilt, line.command);
+    if verdict == MADE {
+        return next_line(run_made(state, elements, buffer, samples), spoilt);
+    }
+    next_line(state, spoilt)
 }
 
 // Puts the members of a list that the last word of a line stands for.
@@ -304,7 +281,7 @@ fn run_byte(
     let mut s = state;
     s.line = line;
     if c == b'\n' {
-        return next_line(run_line(s, elements, buffer, samples));
+        return run_line(s, elements, buffer, samples);
     }
     s
 }
@@ -359,6 +336,6 @@ fn run_all(elements: &mut [i16], buffer: &mut [u8], samples: &mut [i32]) {
 fn main() {
     let mut elements = zero_elements();
     let mut buffer = zero_buffer();
-    let mut samples = lookup::zero_samples();
+    let mut samples = lookup::all_samples(0);
     run_all(&mut elements, &mut buffer, &mut samples);
 }

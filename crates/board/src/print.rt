@@ -47,31 +47,16 @@ pub fn print_answer(line: u64, a: Answer) {
     print_natural(refusal::fault_index(a) as u64);
 }
 
-// What goes before number i: a line has 32 numbers, a space between.
-fn print_gap(i: usize) {
-    if i == 0 {
-        return;
-    }
-    if i % 32 == 0 {
-        end_line();
-    } else {
-        io::write_all(STDOUT_FILENO, b" ");
-    }
-}
-
-// Number i of a list, two hexadecimal digits for a byte.
-pub fn print_item(hexadecimal: bool, i: usize, v: u64) {
-    print_gap(i);
+// A number of a list, two hexadecimal digits for a byte, and what goes behind it.
+pub fn print_item(hexadecimal: bool, ends: bool, v: u64) {
     if hexadecimal {
         io::print_hex(STDOUT_FILENO, v % 256, 2);
     } else {
         print_lifted(v);
     }
-}
-
-// Ends the last line of so many numbers; of none there is no line.
-pub fn print_end(count: usize) {
-    if count != 0 {
+    if ends {
         end_line();
+    } else {
+        io::write_all(STDOUT_FILENO, b" ");
     }
 }

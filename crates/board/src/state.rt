@@ -1,7 +1,6 @@
 // What goes from byte to byte beside the lists: the line under way, and what the lines before it left.
 use crate::line::Line;
 use lut::Counters;
-use lut::LutSettings;
 use regions::RegionTable;
 
 pub struct State {
@@ -13,7 +12,10 @@ pub struct State {
     // whether checksums are printed in place of lists
     pub sums: bool,
     pub table: RegionTable,
-    pub settings: LutSettings,
+    // the numbers of the lines that set X, Y and the priority bits, each with its command as the last number
+    pub x: [u64; 16],
+    pub y: [u64; 16],
+    pub bits: [u64; 16],
     pub counters: Counters,
 }
 
@@ -26,7 +28,9 @@ pub fn first_state() -> State {
         spoilt: 0,
         sums: false,
         table: regions::empty(crate::calls::cube_layout(zeros)),
-        settings: crate::lookup::settings_of(zeros),
+        x: zeros,
+        y: zeros,
+        bits: zeros,
         counters: crate::lookup::counters_of(zeros),
     }
 }

@@ -9,8 +9,8 @@ pub struct Word {
     pub times: u64,
 }
 
-// Beyond every number that a word can stand for.
-pub const BAD: u64 = 1099511627776;
+// Beyond every number that a word can stand for: 2^61.
+pub const BAD: u64 = 2305843009213693952;
 
 // A word before its first byte.
 pub fn no_word() -> Word {
@@ -36,7 +36,7 @@ fn digit_of(c: u8) -> u64 {
 // A number with one digit more, or BAD.
 fn extended(value: u64, c: u8, hexadecimal: bool) -> u64 {
     let d = digit_of(c);
-    if 8589934592 < value {
+    if 288230376151711743 < value {
         return BAD;
     }
     if d < 10 {
@@ -95,7 +95,11 @@ fn lifted(w: Word) -> u64 {
     if w.negative {
         return if n <= 2147483648 { 2147483648 - n } else { BAD };
     }
-    if n <= 4294967295 { n + 2147483648 } else { BAD }
+    if n < BAD - 2147483648 {
+        n + 2147483648
+    } else {
+        BAD
+    }
 }
 
 // Whether a kind is that of bytes.
@@ -106,7 +110,8 @@ pub fn is_byte(kind: u8) -> bool {
 // Whether a lifted number is one of a kind.
 fn is_of(v: u64, kind: u8) -> bool {
     match kind {
-        b'n' => 2147483648 <= v && v < BAD,
+        b'n' => 2147483648 <= v && v <= 6442450943,
+        b'p' => 2147483648 <= v && v < BAD,
         b's' | b'S' => v <= 4294967295,
         b'e' | b'E' => 2147450880 <= v && v <= 2147516415,
         _ => 2147483648 <= v && v <= 2147483903,
@@ -120,7 +125,7 @@ pub fn value_of(w: Word, kind: u8) -> u64 {
     if byte && w.digits != 2 {
         return BAD;
     }
-    if w.negative && (byte || kind == b'n') {
+    if w.negative && (byte || kind == b'n' || kind == b'p') {
         return BAD;
     }
     if is_of(v, kind) { v } else { BAD }

@@ -3,7 +3,7 @@
 --     kept-text                        the bytes of a line that are kept
 --     call-printed                     one call for a part, before the calls after it
 --     reading-none, reading-more       no part is read, one part more
---     reading-whole                    the end of the input
+--     reading-end, reading-whole       the end of the input
 use Prim.Native.Nat.{ℕ, _+_, _-_, _≤_, _<_, min}
 use native.Mathlib.Nat.{min-eq-left, min-eq-right}
 use native.Mathlib.Numerals.{add-one}
@@ -26,7 +26,7 @@ use Rattle.script.specs.Output.{header, rowText, givenText, outputOfParts}
 use Rattle.script.proofs.CallLaws.{part-next}
 use Rattle.script.proofs.OutputLaws.{handed-over}
 use Rattle.sheet_io.specs.declared.Printed.{Printed}
-use Rattle.sheet_io.specs.Printing.{mixed, checksum, rowsText, startPrinted, callsPrinted, partPrinted, partsPrinted, Reading, Whole}
+use Rattle.sheet_io.specs.Printing.{mixed, checksum, rowsText, startPrinted, callsPrinted, partPrinted, partsPrinted, endPrinted, Reading, Whole}
 
 -- ---- bytes
 
@@ -87,9 +87,8 @@ unfolding andThen givenText flatten
 last-text Nothing = refl
 last-text (Ended row) = append-nil (rowText row)
 
-rows-printed : (parts : List (List ℕ)) (p : Printed)
-    → checksum (partsPrinted p parts .sum) (givenText (finished (partsPrinted p parts .sheet) .given)) ≡ checksum (p .sum) (rowsText (rowsOfParts (p .sheet) parts))
-unfolding partPrinted partsPrinted rowsOfParts
+rows-printed : (parts : List (List ℕ)) (p : Printed) → endPrinted (partsPrinted p parts) .sum ≡ checksum (p .sum) (rowsText (rowsOfParts (p .sheet) parts))
+unfolding endPrinted partPrinted partsPrinted rowsOfParts
 rows-printed [] p = ap (checksum (p .sum)) (sym (last-text (finished (p .sheet) .given)))
 rows-printed (part ∷ parts) p =
     let o = wholePart (p .sheet) part in
@@ -97,8 +96,7 @@ rows-printed (part ∷ parts) p =
     ∙ sym (checksum-append (rowsText (o .rows)) (rowsText (rowsOfParts (o .sheet) parts)) (p .sum))
     ∙ ap (checksum (p .sum)) (sym (rowsText-append (o .rows) (rowsOfParts (o .sheet) parts)))
 
-parts-whole : (parts : List (List ℕ))
-    → checksum (partsPrinted startPrinted parts .sum) (givenText (finished (partsPrinted startPrinted parts .sheet) .given)) ≡ checksum 0 (outputOfParts parts)
+parts-whole : (parts : List (List ℕ)) → endPrinted (partsPrinted startPrinted parts) .sum ≡ checksum 0 (outputOfParts parts)
 unfolding outputOfParts
 parts-whole parts =
     rows-printed parts startPrinted
@@ -118,18 +116,13 @@ reading-more part r e =
       printed = e ∙ ap (λ (x : Printed). partPrinted x part) (r .printed) ∙ sym (parts-snoc (r .parts) part startPrinted);
     }
 
-pub reading-whole : {p : Printed} {last : Fed} {text : Line} {sum : ℕ} → Reading p → last ≡ finished (p .sheet) → text ≡ written (givenText (last .given))
+pub reading-end : (p : Printed) {last : Fed} {text : Line} {sum : ℕ} → last ≡ finished (p .sheet) → text ≡ written (givenText (last .given))
     → sum ≡ checksum (p .sum) (lineText text)
-    → Whole (record { sheet = last .sheet; sum = sum })
-reading-whole {p} {last} {text} {sum} r e t n =
-    record {
-      parts = r .parts;
-      state = ap (λ (f : Fed). f .sheet) e ∙ ap (λ (x : Printed). finished (x .sheet) .sheet) (r .printed);
-      sum =
-          n
-          ∙ ap (λ (l : Line). checksum (p .sum) (lineText l)) t
-          ∙ ap (checksum (p .sum)) (written-text (givenText (last .given)))
-          ∙ ap (λ (f : Fed). checksum (p .sum) (givenText (f .given))) e
-          ∙ ap (λ (x : Printed). checksum (x .sum) (givenText (finished (x .sheet) .given))) (r .printed)
-          ∙ parts-whole (r .parts);
-    }
+    → _≡_ {A = Printed} (record { sheet = last .sheet; sum = sum }) (endPrinted p)
+unfolding endPrinted
+reading-end p {last} {text} {sum} e t n = rw (n, t, written-text (givenText (last .given)), e)
+
+pub reading-whole : {p q : Printed} → Reading p → q ≡ endPrinted p → Whole q
+reading-whole r e =
+    let all = e ∙ ap endPrinted (r .printed) in
+    record { parts = r .parts; state = ap (λ (x : Printed). x .sheet) all; sum = ap (λ (x : Printed). x .sum) all ∙ parts-whole (r .parts) }

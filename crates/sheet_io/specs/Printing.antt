@@ -35,6 +35,10 @@ unfoldable pub partsPrinted : Printed → List (List ℕ) → Printed
 partsPrinted p [] = p
 partsPrinted p (part ∷ parts) = partsPrinted (partPrinted p part) parts
 
+-- the end of the input
+unfoldable pub endPrinted : Printed → Printed
+endPrinted p = record { sheet = finished (p .sheet) .sheet; sum = checksum (p .sum) (givenText (finished (p .sheet) .given)) }
+
 -- some parts were read: what was written for them
 pub record Reading (p : Printed) : Type 0 where
   pub parts : List (List ℕ)
@@ -43,5 +47,5 @@ pub record Reading (p : Printed) : Type 0 where
 -- some parts were read to the end: what was written is their whole output
 pub record Whole (p : Printed) : Type 0 where
   pub parts : List (List ℕ)
-  pub state : p .sheet ≡ finished (partsPrinted startPrinted parts .sheet) .sheet
+  pub state : p .sheet ≡ endPrinted (partsPrinted startPrinted parts) .sheet
   pub sum : p .sum ≡ checksum 0 (outputOfParts parts)

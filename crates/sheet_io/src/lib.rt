@@ -1,9 +1,10 @@
 // The sheet program's reading and writing (scope paper, "The sheet program"): standard input to its end, and what the library gives to write, one text
-// after another. Of reading and writing themselves nothing is proved; what is given to `write` is promised by a checksum of its bytes.
+// after another, or nothing where it is not to be shown. Of reading and writing themselves nothing is proved; what is given to `write` is promised by a
+// checksum of its bytes.
 ghost use mathlib.Core.Path.{_≡_};
 ghost use Prim.Native.Nat.{min};
 ghost use Rattle.lines.specs.Collecting.{lineText};
-ghost use Rattle.sheet_io.specs.Printing.{mixed, checksum, startPrinted, partPrinted, Reading, Whole};
+ghost use Rattle.sheet_io.specs.Printing.{mixed, checksum, startPrinted, partPrinted, endPrinted, Reading, Whole};
 use libc::STDIN_FILENO;
 use libc::STDOUT_FILENO;
 use lines::Line;
@@ -45,18 +46,25 @@ fn kept(length: u32) -> usize
     120
 }
 
-// Writes a text; the checksum after it.
-fn write(sum: u64, text: Line) -> u64
+// Writes bytes if they are to be shown.
+fn show(shown: bool, text: &[u8]) {
+    if shown {
+        io::write_all(STDOUT_FILENO, text);
+    }
+}
+
+// Writes a text if it is to be shown; the checksum after it.
+fn write(shown: bool, sum: u64, text: Line) -> u64
     ensures { λ r. ⌜ r ≡ checksum sum (lineText text) ⌝ }
 {
     let n = kept(text.length);
     let bytes = text.bytes;
-    io::write_all(STDOUT_FILENO, &bytes[..n]);
+    show(shown, &bytes[..n]);
     summed(sum, &bytes[..n])
 }
 
 // Feeds a part of the input until all of it is read, and writes what each call gives.
-fn feed_all(before: Printed, part: &[u8]) -> Printed
+pub fn feed_all(shown: bool, before: Printed, part: &[u8]) -> Printed
     ensures { λ r. ⌜ r ≡ partPrinted before (now (part .entry)) ⌝ }
 {
     let mut state = before.sheet;
@@ -65,7 +73,7 @@ fn feed_all(before: Printed, part: &[u8]) -> Printed
     while from < part.len() {
         let fed = script::feed(state, &part[from..]);
         let given = fed.given;
-        sum = write(sum, script::given_text(given));
+        sum = write(shown, sum, script::given_text(given));
         state = fed.sheet;
         from += fed.read;
     }
@@ -76,11 +84,11 @@ fn feed_all(before: Printed, part: &[u8]) -> Printed
 }
 
 // No part is read, and the header is written.
-fn begin() -> Printed
+pub fn begin(shown: bool) -> Printed
     ensures { λ r. ⌜ r ≡ startPrinted ⌝ }
 {
     let sheet = script::begin();
-    let header = write(0, script::header_text());
+    let header = write(shown, 0, script::header_text());
     Printed {
         sheet: sheet,
         sum: header,
@@ -92,31 +100,37 @@ fn read_all() -> Printed
     ensures { λ r. ⌜ Reading r ⌝ }
 {
     let mut buffer = io::large_buffer();
-    let mut printed = begin();
+    let mut printed = begin(true);
     let mut left: u64 = 18446744073709551615;
     while 0 < left {
         let n = io::read_full(STDIN_FILENO, &mut buffer);
         if n == 0 {
             break;
         }
-        printed = feed_all(printed, &buffer[..n]);
+        printed = feed_all(true, printed, &buffer[..n]);
         left -= 1;
     }
     printed
+}
+
+// The end of the input: the row of a last line that lacks its newline.
+pub fn finish(shown: bool, before: Printed) -> Printed
+    ensures { λ r. ⌜ r ≡ endPrinted before ⌝ }
+{
+    let sheet = before.sheet;
+    let last = script::finish(sheet);
+    let given = last.given;
+    let all = write(shown, before.sum, script::given_text(given));
+    let end = last.sheet;
+    Printed {
+        sheet: end,
+        sum: all,
+    }
 }
 
 // The program: the header, a row for each line, and the row of a last line that lacks its newline.
 pub fn run() -> Printed
     ensures { λ r. ⌜ Whole r ⌝ }
 {
-    let printed = read_all();
-    let sheet = printed.sheet;
-    let last = script::finish(sheet);
-    let given = last.given;
-    let all = write(printed.sum, script::given_text(given));
-    let end = last.sheet;
-    Printed {
-        sheet: end,
-        sum: all,
-    }
+    finish(true, read_all())
 }

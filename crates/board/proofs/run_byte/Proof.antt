@@ -12,14 +12,11 @@ put-members-requires c κs = search needs
 run-line-requires : tie.Need-run-line-requires
 run-line-requires c κs = search needs
 
-next-line-requires : tie.Need-next-line-requires
-next-line-requires c κs = search needs
-
 same-length : tie.Need-same-length
-same-length c = let b = c .before .before .before in let a = b .before .before .before .before .before .before .before .before .before in search (needs, b .before .elements2 .given, a .before .elements .given)
+same-length c = let b = c .before .before in let a = b .before .before .before .before .before .before .before .before .before in search (needs, b .before .elements2 .given, a .before .elements .given)
 
 same-length-2 : tie.Need-same-length-2
-same-length-2 c = let b = c .before .before .before in let a = b .before .before .before .before .before .before .before .before .before in search (needs, b .buffer2 .given, a .buffer .given)
+same-length-2 c = let b = c .before .before in let a = b .before .before .before .before .before .before .before .before .before in search (needs, b .buffer2 .given, a .buffer .given)
 
 same-length-3 : tie.Need-same-length-3
 same-length-3 c = search needs
@@ -46,7 +43,6 @@ run-byte-spec =
     with-byte-requires
     put-members-requires
     run-line-requires
-    next-line-requires
     same-length
     same-length-2
     same-length-3

@@ -16,11 +16,11 @@ use Rattle.sheet_io.proofs.feed_all.Statement.{statement}
 use Rattle.sheet_io.proofs.feed_all.Tie as tie
 
 abbrev Inv-loop : tie.InvT-loop
-Inv-loop part state₀ sum₀ from₀ state sum from =
+Inv-loop shown part state₀ sum₀ from₀ state sum from =
     (from ≤ length part) × (callsPrinted sum (partFed (length part - from) state (drop from part)) ≡ callsPrinted sum₀ (wholePart state₀ part))
 
 abbrev μ-loop : tie.MeasureT-loop
-μ-loop part state₀ sum₀ from₀ state sum from = length part - from
+μ-loop shown part state₀ sum₀ from₀ state sum from = length part - from
 
 -- the bytes that a call read
 abbrev whole : tie.After-feed Inv-loop μ-loop → ℕ

@@ -24,11 +24,11 @@ within c = omega (arith, room c, c .kept .ensures, min-le-right (c .before .args
 array-share-prefix-bytes : tie.Need-array-share-prefix-bytes
 array-share-prefix-bytes c = within (c .before)
 
-slice-aggregate-write-all : tie.Need-slice-aggregate-write-all
-slice-aggregate-write-all c = sym (length-take-le _ _ (within (c .before .before)))
+slice-aggregate-show : tie.Need-slice-aggregate-show
+slice-aggregate-show c = sym (length-take-le _ _ (within (c .before .before)))
 
-write-all-requires : tie.Need-write-all-requires
-write-all-requires c κs = search needs
+show-requires : tie.Need-show-requires
+show-requires c κs = search needs
 
 array-share-prefix-bytes-2 : tie.Need-array-share-prefix-bytes-2
 array-share-prefix-bytes-2 c = within (c .before .before .before)
@@ -51,8 +51,8 @@ write-spec =
     (tie.spec
     kept-requires
     array-share-prefix-bytes
-    slice-aggregate-write-all
-    write-all-requires
+    slice-aggregate-show
+    show-requires
     array-share-prefix-bytes-2
     slice-aggregate-summed
     summed-requires

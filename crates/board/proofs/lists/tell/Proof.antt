@@ -19,6 +19,9 @@ loop-holds c = search needs
 at-requires : tie.Need-at-requires Inv-loop μ-loop
 at-requires c κs = search needs
 
+is-last-requires : tie.Need-is-last-requires Inv-loop μ-loop
+is-last-requires c κs = search needs
+
 told-requires : tie.Need-told-requires Inv-loop μ-loop
 told-requires c κs = search needs
 
@@ -31,14 +34,8 @@ loop-less c = search needs
 loop-again : tie.Need-loop-again Inv-loop μ-loop
 loop-again c = search needs
 
-print-end-requires : tie.Need-print-end-requires Inv-loop μ-loop
-print-end-requires c κs = search needs
-
 returns : tie.Need-returns Inv-loop μ-loop
 returns c = search needs
-
-returns-2 : tie.Need-returns-2 Inv-loop μ-loop
-returns-2 c = search needs
 
 pub tell-spec : {M : Type 1} → statement M
 tell-spec =
@@ -49,10 +46,9 @@ tell-spec =
     count-of-requires
     loop-holds
     at-requires
-    told-requires
     add-i
+    is-last-requires
+    told-requires
     loop-less
     loop-again
-    print-end-requires
-    returns
-    returns-2)
+    returns)

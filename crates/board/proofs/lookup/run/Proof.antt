@@ -1,7 +1,6 @@
--- `board::lookup::run` is safe and ends: the count is at most the length of the array of which a part is lent. Assumes nothing.
-use Prim.Native.Nat.{_-_}
-use mathlib.Core.Path.{sym}
+-- `board::lookup::run` is safe: the outputs lent are no more than there are. Assumes nothing.
 use native.Mathlib.Omega.{arith}
+use mathlib.Core.Path.{sym}
 use lib.Seq.{length-take-le}
 use borrow.Author.Needs.{needs}
 use Rattle.board.proofs.lookup.run.Statement.{statement}
@@ -16,8 +15,11 @@ cast-held c = search needs
 held-requires : tie.Need-held-requires
 held-requires c κs = search needs
 
-zero-samples-requires : tie.Need-zero-samples-requires
-zero-samples-requires c κs = search needs
+signed-requires : tie.Need-signed-requires
+signed-requires c κs = search needs
+
+all-samples-requires : tie.Need-all-samples-requires
+all-samples-requires c κs = search needs
 
 array-borrow-prefix-outputs : tie.Need-array-borrow-prefix-outputs
 array-borrow-prefix-outputs c = search needs
@@ -27,12 +29,6 @@ slice-aggregate-run-over c = sym (length-take-le _ _ (omega arith))
 
 run-over-requires : tie.Need-run-over-requires
 run-over-requires c κs = search needs
-
-same-length : tie.Need-same-length
-same-length c = search needs
-
-same-length-2 : tie.Need-same-length-2
-same-length-2 c = search needs
 
 returns : tie.Need-returns
 returns c = search needs
@@ -44,10 +40,9 @@ run-spec =
     natural-requires
     cast-held
     held-requires
-    zero-samples-requires
+    signed-requires
+    all-samples-requires
     array-borrow-prefix-outputs
     slice-aggregate-run-over
     run-over-requires
-    same-length
-    same-length-2
     returns)

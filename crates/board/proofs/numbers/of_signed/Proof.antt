@@ -1,4 +1,4 @@
--- `board::numbers::raised_signed` is safe: an i32 plus 2147483648 is not negative. Assumes nothing.
+-- `board::numbers::of_signed` is safe: an i32 plus 2147483648 is not negative. Assumes nothing.
 use Prim.Native.Nat.{_<_}
 use mathlib.Core.Path.{_≡_}
 use native.Mathlib.Omega.{arith}
@@ -8,8 +8,8 @@ use mir.Val.{SFits, toZ, ofZ}
 use mir.Facts.{toZ-ofZ, sfits-widen}
 use borrow.Author.Needs.{needs}
 use Rattle.board.proofs.SignedLaws.{raised, raised-is, raised-lt}
-use Rattle.board.proofs.numbers.raised_signed.Statement.{statement}
-use Rattle.board.proofs.numbers.raised_signed.Tie as tie
+use Rattle.board.proofs.numbers.of_signed.Statement.{statement}
+use Rattle.board.proofs.numbers.of_signed.Tie as tie
 
 module _ (z : ℤ) (f : SFits w32 z) where
   raised-fits : SFits w64 (pos (raised 2147483648 z))
@@ -39,5 +39,5 @@ cast-result-2 c =
 returns : tie.Need-returns
 returns c = search needs
 
-pub raised-signed-spec : {M : Type 1} → statement M
-raised-signed-spec = tie.close (tie.spec cast-result add-result cast-result-2 returns)
+pub of-signed-spec : {M : Type 1} → statement M
+of-signed-spec = tie.close (tie.spec cast-result add-result cast-result-2 returns)
