@@ -38,20 +38,13 @@ fn list_of(command: u32) -> u32 {
     }
 }
 
-// The index at which a drawing line begins: behind what is lent for `more`, else 0.
-fn drawn_from(command: u32, counts: [usize; 3]) -> usize {
+// The index at which a line draws: behind the members that it has itself, or behind what is lent for `more`, else 0.
+fn drawn_from(command: u32, members: usize, counts: [usize; 3]) -> usize {
     match command {
+        0..=2 => members,
         8..=10 => counts[(list_of(command) % 3) as usize],
         _ => 0,
     }
-}
-
-// The state with so many members of a list lent.
-fn with_count(state: State, list: u32, count: usize) -> State {
-    let mut s = state;
-    let k = (list % 3) as usize;
-    s.counts[k] = count;
-    s
 }
 
 // Whether the counts and the index of a line are within their limits.
@@ -59,7 +52,7 @@ fn is_within(command: u32, numbers: [u64; 16], counts: [usize; 3]) -> bool {
     let n = natural(numbers, 0) as usize;
     let most = lists::room(list_of(command));
     match command {
-        3..=11 => n <= most && drawn_from(command, counts) <= most - n,
+        3..=11 => n <= most && drawn_from(command, 0, counts) <= most - n,
         12 => n < counts[0],
         46 => n <= counts[0] && natural(numbers, 1) <= 65536,
         _ => true,
@@ -81,21 +74,20 @@ fn source_of(command: u32, numbers: [u64; 16]) -> Source {
     }
 }
 
-// A line that lends a list, or more of one.
+// A line that lends a list, or more of one. The members that it has itself are put already, and it draws none.
 fn lend(state: State, elements: &mut [i16], buffer: &mut [u8], samples: &mut [i32]) -> State {
     let line = state.line;
     let numbers = line.numbers;
     let command = line.command;
     let list = list_of(command);
-    if command < 3 {
-        return with_count(state, list, line.members);
-    }
     let counts = state.counts;
-    let from = drawn_from(command, counts);
+    let from = drawn_from(command, line.members, counts);
     let end = wrapping_add_usize(from, natural(numbers, 0) as usize);
     let source = source_of(command, numbers);
     lists::draw(list, from, end, source, elements, buffer, samples);
-    with_count(state, list, end)
+    let mut s = state;
+    s.counts[(list % 3) as usize] = end;
+    s
 }
 
 // `show`, `sum`: a list, or its checksum.
