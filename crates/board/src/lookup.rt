@@ -88,17 +88,20 @@ fn ready(n: [u64; 16]) -> Ready {
     )
 }
 
+// The ready-made settings; only a line that was accepted is kept.
+fn by_ready(n: [u64; 16]) -> LutSettings {
+    match ready(n) {
+        Ready::Setting(settings) => settings,
+        Ready::Refused(_, _) => by_numbers(n, XMode::Linear(0)),
+    }
+}
+
 // The settings by a line, whose command is its last number.
 fn by_line(n: [u64; 16]) -> LutSettings {
-    let made = ready(n);
-    let linear = by_numbers(n, XMode::Linear(signed(n, 0)));
     match n[15] {
         41 => by_numbers(n, XMode::Exponential(signed(n, 0))),
-        45 => match made {
-            Ready::Setting(settings) => settings,
-            Ready::Refused(_, _) => linear,
-        },
-        _ => linear,
+        45 => by_ready(n),
+        _ => by_numbers(n, XMode::Linear(signed(n, 0))),
     }
 }
 

@@ -244,22 +244,7 @@ fn run_line(state: State, elements: &mut [i16], buffer: &mut [u8], samples: &mut
     next_line(state, spoilt)
 }
 
-// Puts the members of a list that the last word of a line stands for.
-fn put_members(line: Line, elements: &mut [i16], buffer: &mut [u8], samples: &mut [i32]) {
-    let list = list_of(line.command);
-    let source = lists::always(line.value);
-    lists::draw(
-        list,
-        line.before,
-        line.members,
-        source,
-        elements,
-        buffer,
-        samples,
-    );
-}
-
-// Reads a byte; a line runs at its newline.
+// Reads a byte, and puts the members of a list that the word it ends stands for; a line runs at its newline.
 fn run_byte(
     c: u8,
     state: State,
@@ -269,7 +254,15 @@ fn run_byte(
 ) -> State {
     let begun = state.line;
     let line = line::with_byte(begun, c);
-    put_members(line, elements, buffer, samples);
+    lists::draw(
+        list_of(line.command),
+        line.before,
+        line.members,
+        lists::always(line.value),
+        elements,
+        buffer,
+        samples,
+    );
     let mut s = state;
     s.line = line;
     if c == b'\n' {

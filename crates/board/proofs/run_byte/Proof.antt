@@ -6,8 +6,14 @@ use Rattle.board.proofs.run_byte.Tie as tie
 with-byte-requires : tie.Need-with-byte-requires
 with-byte-requires c κs = search needs
 
-put-members-requires : tie.Need-put-members-requires
-put-members-requires c κs = search needs
+list-of-requires : tie.Need-list-of-requires
+list-of-requires c κs = search needs
+
+always-requires : tie.Need-always-requires
+always-requires c κs = search needs
+
+draw-requires : tie.Need-draw-requires
+draw-requires c κs = search needs
 
 run-line-requires : tie.Need-run-line-requires
 run-line-requires c κs = search needs
@@ -41,7 +47,9 @@ run-byte-spec =
     tie.close
     (tie.spec
     with-byte-requires
-    put-members-requires
+    list-of-requires
+    always-requires
+    draw-requires
     run-line-requires
     same-length
     same-length-2
