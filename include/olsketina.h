@@ -1,31 +1,15 @@
-/* Olsketina: memory layouts of a small NVDLA accelerator, for C and C++.
+/* Olsketina: memory layouts of a small NVDLA accelerator, for C (from C11 on) and C++ (from C++17 on), on x86-64 Linux.
  *
- * Link libolsketina.a, which `rt staticlib olsketina` writes. Numbers and refusals are those of the scope paper; the promise of each call
- * stands above it in crates/olsketina/src/.
+ * Link libolsketina.a (`rt staticlib olsketina`), and for the camera curve libolsketina_curve.a (`rt staticlib olsketina_curve`). Numbers and
+ * refusals are those of the scope paper; the promise of each call stands above it in crates/olsketina/src/ and crates/olsketina_curve/src/.
  *
  * Memory. A slice passes as two arguments, pointer then length (in elements). No pointer may be null, also where its length is 0, and each is
- * aligned to its type. What a call lends for writing must not overlap anything else that it lends. Nothing is kept after a call returns.
+ * aligned to its type. What a call lends for writing must not overlap anything else that it lends. Nothing is kept after a call returns, and
+ * nothing is shared between calls: every call is reentrant.
  *
- * Answers. A call with a `place` returns the refusal number, 0 where it was accepted, and stores the index at fault in *place, 0 where there
- * is none. Any contents of any argument are taken: what breaks a rule is refused, and nothing else. A refused call writes *place and nothing
- * else. "Order" lists the checks in the order in which they are made.
- *
- * Settings are arrays of words:
- *   layout[7]    width, height, channels, precision (0 int8, 1 int16, 2 fp16), line stride, surface stride, start
- *   box[6]       first channel, first row, first column, then how many channels, rows, columns
- *   weights[5]   kernels, channels, rows, columns, precision
- *   image[8]     format code, width, height, channels, precision, X offset, start, line stride
- *   table[87]    the layout's 7 words, then for each of the slots 0 to 15 five words: placed (0 is empty, any other is placed), first column,
- *                first row, columns, rows. The last four of an empty slot mean nothing. A placing stores 1 as placed; a word that already says
- *                what is to be stored stays.
- *   x[3], y[3]   select (of an exponential X its offset), start, end
- *   scales[4], shifts[4]   of the slopes: X below, X above, Y below, Y above
- *   priorities[3]          which table answers: Priority, OverflowPriority, UnderflowPriority; 0 is X, any other is Y
- *   counters[5]  samples of each kind: X only, Y only, underflow, overflow, priority
- *   state[91]    of a sheet: lines ended (low word, high word), length of the line in progress (held at 121), whether a frame was accepted (0 is
- *                no, any other yes), then the 87 words of its table; text[120] has the first bytes of the line in progress
- *   row[5]       1, then the number, answer, place and value of the line that ended; all 0 where none ended
- *   record[8]    0 unreadable, 1 frame, 2 stall, 3 cell; then its numbers, the rest 0
+ * Answers. A call with a `fault` returns the refusal's number, OLSKETINA_ACCEPTED (0) where it was accepted, and stores the index at fault in
+ * *fault, 0 where there is none. Any contents of any argument are taken: what breaks a rule is refused, and nothing else. A refused call writes
+ * *fault and nothing else. "Order" lists the checks in the order in which they are made.
  */
 #ifndef OLSKETINA_H
 #define OLSKETINA_H
@@ -34,185 +18,398 @@
 #include <stddef.h>
 #include <stdint.h>
 
+/* The header's version; olsketina_version() gives the archive's. It grows with every change of a call or of a word's meaning. */
+#define OLSKETINA_VERSION 2
+
+/* A parameter that points to (at least) n elements; a result that must be looked at. */
 #ifdef __cplusplus
+#define OLSKETINA_WORDS(n) n
+#define OLSKETINA_NODISCARD [[nodiscard]]
 extern "C" {
+#else
+#define OLSKETINA_WORDS(n) static n
+#if defined(__STDC_VERSION__) && __STDC_VERSION__ >= 202311L
+#define OLSKETINA_NODISCARD [[nodiscard]]
+#elif defined(__GNUC__)
+#define OLSKETINA_NODISCARD __attribute__((warn_unused_result))
+#else
+#define OLSKETINA_NODISCARD
 #endif
+#endif
+
+/* The version of the archive: OLSKETINA_VERSION of the header that it was written with. */
+OLSKETINA_NODISCARD uint32_t olsketina_version(void);
+
+/* ---- refusals */
+
+enum olsketina_refusal {
+    OLSKETINA_ACCEPTED = 0,
+    OLSKETINA_REFUSED_SIZE = 1,
+    OLSKETINA_REFUSED_PRECISION = 2,
+    OLSKETINA_REFUSED_CUBE_STRIDES = 3,
+    OLSKETINA_REFUSED_CUBE_START = 4,
+    OLSKETINA_REFUSED_BUFFER_LENGTH = 5,
+    OLSKETINA_REFUSED_ELEMENT_COUNT = 6,
+    OLSKETINA_REFUSED_INT8_RANGE = 7,
+    OLSKETINA_REFUSED_SLOT = 8,
+    OLSKETINA_REFUSED_BOUNDS = 9,
+    OLSKETINA_REFUSED_OVERLAP = 10,
+    OLSKETINA_REFUSED_TABLE_LENGTH = 11,
+    OLSKETINA_REFUSED_X_SELECT = 12,
+    OLSKETINA_REFUSED_X_END = 13,
+    OLSKETINA_REFUSED_Y_SELECT = 14,
+    OLSKETINA_REFUSED_Y_END = 15,
+    OLSKETINA_REFUSED_SHIFT = 16,
+    OLSKETINA_REFUSED_COUNTERS = 17,
+    OLSKETINA_REFUSED_OUTPUT_LENGTH = 18,
+    OLSKETINA_REFUSED_PIXEL_FORMAT = 19,
+    OLSKETINA_REFUSED_PIXEL_KIND = 20,
+    OLSKETINA_REFUSED_X_OFFSET = 21,
+    OLSKETINA_REFUSED_PIXEL_STRIDES = 22,
+    OLSKETINA_REFUSED_PIXEL_OUTSIDE = 23,
+    OLSKETINA_REFUSED_SCRIPT_LINE = 24
+};
+
+/* A refusal's plain sentence, for any number. */
+static inline const char *olsketina_sentence(uint32_t refusal)
+{
+    switch (refusal) {
+    case OLSKETINA_ACCEPTED: return "accepted";
+    case OLSKETINA_REFUSED_SIZE: return "a size is out of its range";
+    case OLSKETINA_REFUSED_PRECISION: return "the precision code is unknown, or is not taken here";
+    case OLSKETINA_REFUSED_CUBE_STRIDES: return "the line or surface stride of the cube does not fit its sizes, or is no multiple of 32";
+    case OLSKETINA_REFUSED_CUBE_START: return "the start of the cube is no multiple of 32";
+    case OLSKETINA_REFUSED_BUFFER_LENGTH: return "the buffer or the file is too short";
+    case OLSKETINA_REFUSED_ELEMENT_COUNT: return "the number of elements is not exactly the one that is needed";
+    case OLSKETINA_REFUSED_INT8_RANGE: return "an int8 element is outside -128 to 127";
+    case OLSKETINA_REFUSED_SLOT: return "the slot is above 15, not placed, or already placed";
+    case OLSKETINA_REFUSED_BOUNDS: return "the box or the element is empty or outside";
+    case OLSKETINA_REFUSED_OVERLAP: return "the region overlaps one that is placed";
+    case OLSKETINA_REFUSED_TABLE_LENGTH: return "the X table has not 65 entries, or the Y table not 257";
+    case OLSKETINA_REFUSED_X_SELECT: return "the select or offset of the X table is out of its range";
+    case OLSKETINA_REFUSED_X_END: return "the end of the X table is not the one that its start and select give";
+    case OLSKETINA_REFUSED_Y_SELECT: return "the select of the Y table, or of the ready-made settings, is out of its range";
+    case OLSKETINA_REFUSED_Y_END: return "the end of the Y table is not the one that its start and select give";
+    case OLSKETINA_REFUSED_SHIFT: return "a shift is out of its range";
+    case OLSKETINA_REFUSED_COUNTERS: return "the counters and the new samples together are above 4294967295";
+    case OLSKETINA_REFUSED_OUTPUT_LENGTH: return "the outputs or the report have not the number of places that is needed";
+    case OLSKETINA_REFUSED_PIXEL_FORMAT: return "the pixel format code is unknown";
+    case OLSKETINA_REFUSED_PIXEL_KIND: return "channels or precision are not those of the pixel format";
+    case OLSKETINA_REFUSED_X_OFFSET: return "the X offset is out of the range of the pixel format";
+    case OLSKETINA_REFUSED_PIXEL_STRIDES: return "the start or line stride of the image is no multiple of 32, or the line is too short";
+    case OLSKETINA_REFUSED_PIXEL_OUTSIDE: return "the pixel is outside the image";
+    case OLSKETINA_REFUSED_SCRIPT_LINE: return "a line cannot be read as a record, or a file cannot be opened, read or written";
+    default: return "no number of a refusal";
+    }
+}
 
 /* ---- cube layouts */
 
-/* Whether a cube's layout is taken.
+/* precisions */
+#define OLSKETINA_INT8 0
+#define OLSKETINA_INT16 1
+#define OLSKETINA_FP16 2
+
+/* words of a layout; strides and start in bytes */
+#define OLSKETINA_LAYOUT_WIDTH 0
+#define OLSKETINA_LAYOUT_HEIGHT 1
+#define OLSKETINA_LAYOUT_CHANNELS 2
+#define OLSKETINA_LAYOUT_PRECISION 3
+#define OLSKETINA_LAYOUT_LINE 4
+#define OLSKETINA_LAYOUT_SURFACE 5
+#define OLSKETINA_LAYOUT_START 6
+#define OLSKETINA_LAYOUT_WORDS 7
+
+/* Whether a cube's layout is valid.
  * Order: 1, 2, 3, 4. */
-uint32_t olsketina_layout_check(const uint32_t *layout, size_t *place);
+OLSKETINA_NODISCARD uint32_t olsketina_layout_check(
+    const uint32_t layout[OLSKETINA_WORDS(OLSKETINA_LAYOUT_WORDS)], size_t *fault);
 
 /* Bytes from the start to the end of the last atom, stored in *value.
  * Order: 1, 2, 3, 4. */
-uint32_t olsketina_layout_extent(const uint32_t *layout, uint64_t *value, size_t *place);
-
-/* Whether a box has elements, all of them in the cube.
- * Order: 1, 2, 3, 4, 9. */
-uint32_t olsketina_layout_check_box(const uint32_t *layout, const uint32_t *box, size_t *place);
-
-/* Whether a call that lends `given` elements for a box and a buffer of `length` bytes is taken.
- * Order: 1, 2, 3, 4, 9, 6, 5. */
-uint32_t olsketina_layout_admit(const uint32_t *layout, const uint32_t *box, size_t given, size_t length, size_t *place);
-
-/* Whether `count` numbers from `first` on are at least one and all below `size`.
- * Refuses nothing. */
-bool olsketina_layout_span_inside(uint32_t first, uint32_t count, uint32_t size);
+OLSKETINA_NODISCARD uint32_t olsketina_layout_extent(
+    const uint32_t layout[OLSKETINA_WORDS(OLSKETINA_LAYOUT_WORDS)], uint64_t *value, size_t *fault);
 
 /* ---- cubes */
 
-/* Packs a raw tensor: each atom is written whole, its padding as 0; every other byte stays.
- * Order: 1, 2, 3, 4, 6, 5, 7 (place: the least raw index at fault). */
-uint32_t olsketina_cube_pack(const uint32_t *layout, const int16_t *elements, size_t elements_len, uint8_t *buffer, size_t buffer_len, size_t *place);
+/* Packs a raw tensor: each atom is written whole, its padding as 0; every other byte stays. (This is the first call that takes slices: their
+ * pointers are never null, also where a length is 0.)
+ * Order: 1, 2, 3, 4, 6, 5, 7 (fault: the least raw index at fault). */
+OLSKETINA_NODISCARD uint32_t olsketina_cube_pack(
+    const uint32_t layout[OLSKETINA_WORDS(OLSKETINA_LAYOUT_WORDS)],
+    const int16_t *elements, size_t elements_len, uint8_t *buffer, size_t buffer_len, size_t *fault);
 
 /* Reads a packed cube back into raw order; padding is ignored.
  * Order: 1, 2, 3, 4, 6, 5. */
-uint32_t olsketina_cube_unpack(const uint32_t *layout, const uint8_t *buffer, size_t buffer_len, int16_t *elements, size_t elements_len, size_t *place);
-
-/* Writes the elements of a box of the cube, in raw order over the box, and no other byte.
- * Order: 1, 2, 3, 4, 9, 6, 5, 7 (place: the least index at fault). */
-uint32_t olsketina_cube_write_box(const uint32_t *layout, const uint32_t *box, const int16_t *elements, size_t elements_len, uint8_t *buffer, size_t buffer_len, size_t *place);
-
-/* Reads the elements of a box of the cube, in raw order over the box.
- * Order: 1, 2, 3, 4, 9, 6, 5. */
-uint32_t olsketina_cube_read_box(const uint32_t *layout, const uint32_t *box, const uint8_t *buffer, size_t buffer_len, int16_t *elements, size_t elements_len, size_t *place);
+OLSKETINA_NODISCARD uint32_t olsketina_cube_unpack(
+    const uint32_t layout[OLSKETINA_WORDS(OLSKETINA_LAYOUT_WORDS)],
+    const uint8_t *buffer, size_t buffer_len, int16_t *elements, size_t elements_len, size_t *fault);
 
 /* The byte at which an element begins, stored in *value.
  * Order: 1, 2, 3, 4, 9. */
-uint32_t olsketina_cube_position(const uint32_t *layout, uint32_t channel, uint32_t row, uint32_t column, uint64_t *value, size_t *place);
+OLSKETINA_NODISCARD uint32_t olsketina_cube_position(
+    const uint32_t layout[OLSKETINA_WORDS(OLSKETINA_LAYOUT_WORDS)],
+    uint32_t channel, uint32_t row, uint32_t column, uint64_t *value, size_t *fault);
 
 /* ---- regions of one cube (the scope paper's stalls) */
 
+/* words of a box: its first channel, row and column, then how many of each */
+#define OLSKETINA_BOX_CHANNEL 0
+#define OLSKETINA_BOX_ROW 1
+#define OLSKETINA_BOX_COLUMN 2
+#define OLSKETINA_BOX_CHANNELS 3
+#define OLSKETINA_BOX_ROWS 4
+#define OLSKETINA_BOX_COLUMNS 5
+#define OLSKETINA_BOX_WORDS 6
+
+/* words of a slot: placed (0 is empty, any other is placed), then the rectangle. The last four of an empty slot mean nothing. */
+#define OLSKETINA_SLOT_PLACED 0
+#define OLSKETINA_SLOT_COLUMN 1
+#define OLSKETINA_SLOT_ROW 2
+#define OLSKETINA_SLOT_COLUMNS 3
+#define OLSKETINA_SLOT_ROWS 4
+#define OLSKETINA_SLOT_WORDS 5
+
+/* words of a table: those of its layout, then those of each slot; OLSKETINA_TABLE_SLOT(n) is the index of slot n's first word */
+#define OLSKETINA_SLOTS 16
+#define OLSKETINA_TABLE_LAYOUT 0
+#define OLSKETINA_TABLE_SLOT(n) (OLSKETINA_LAYOUT_WORDS + OLSKETINA_SLOT_WORDS * (n))
+#define OLSKETINA_TABLE_WORDS OLSKETINA_TABLE_SLOT(OLSKETINA_SLOTS)
+
 /* Writes the table of a layout with every slot empty; the calls on it check the layout.
  * Refuses nothing. */
-void olsketina_regions_empty(const uint32_t *layout, uint32_t *table);
+void olsketina_regions_empty(
+    const uint32_t layout[OLSKETINA_WORDS(OLSKETINA_LAYOUT_WORDS)], uint32_t table[OLSKETINA_WORDS(OLSKETINA_TABLE_WORDS)]);
 
-/* Places a region in an empty slot: its five words are stored, every other word stays.
+/* Places a region in an empty slot: the slot's words are written, 1 as placed, and every other word stays.
  * Order: 1, 2, 3, 4, 8, 9, 10. */
-uint32_t olsketina_regions_place(uint32_t *table, uint32_t slot, uint32_t column, uint32_t row, uint32_t columns, uint32_t rows, size_t *place);
+OLSKETINA_NODISCARD uint32_t olsketina_regions_place(
+    uint32_t table[OLSKETINA_WORDS(OLSKETINA_TABLE_WORDS)],
+    uint32_t slot, uint32_t column, uint32_t row, uint32_t columns, uint32_t rows, size_t *fault);
 
 /* Writes the elements of a box, counted from the corner of the region in a slot, and no other byte.
- * Order: 1, 2, 3, 4, 8, 9, 6, 5, 7 (place: the least index at fault). */
-uint32_t olsketina_regions_edit(const uint32_t *table, uint32_t slot, const uint32_t *box, const int16_t *elements, size_t elements_len, uint8_t *buffer, size_t buffer_len, size_t *place);
+ * Order: 1, 2, 3, 4, 8, 9, 6, 5, 7 (fault: the least index at fault). */
+OLSKETINA_NODISCARD uint32_t olsketina_regions_edit(
+    const uint32_t table[OLSKETINA_WORDS(OLSKETINA_TABLE_WORDS)], uint32_t slot, const uint32_t box[OLSKETINA_WORDS(OLSKETINA_BOX_WORDS)],
+    const int16_t *elements, size_t elements_len, uint8_t *buffer, size_t buffer_len, size_t *fault);
 
 /* Reads the elements of a box, counted from the corner of the region in a slot.
  * Order: 1, 2, 3, 4, 8, 9, 6, 5. */
-uint32_t olsketina_regions_read(const uint32_t *table, uint32_t slot, const uint32_t *box, const uint8_t *buffer, size_t buffer_len, int16_t *elements, size_t elements_len, size_t *place);
+OLSKETINA_NODISCARD uint32_t olsketina_regions_read(
+    const uint32_t table[OLSKETINA_WORDS(OLSKETINA_TABLE_WORDS)], uint32_t slot, const uint32_t box[OLSKETINA_WORDS(OLSKETINA_BOX_WORDS)],
+    const uint8_t *buffer, size_t buffer_len, int16_t *elements, size_t elements_len, size_t *fault);
 
 /* The byte at which an element begins, counted from the corner of the region in a slot, stored in *value.
  * Order: 1, 2, 3, 4, 8, 9. */
-uint32_t olsketina_regions_position(const uint32_t *table, uint32_t slot, uint32_t channel, uint32_t row, uint32_t column, uint64_t *value, size_t *place);
+OLSKETINA_NODISCARD uint32_t olsketina_regions_position(
+    const uint32_t table[OLSKETINA_WORDS(OLSKETINA_TABLE_WORDS)],
+    uint32_t slot, uint32_t channel, uint32_t row, uint32_t column, uint64_t *value, size_t *fault);
 
 /* ---- direct-convolution weights */
 
+/* words of a weight setting */
+#define OLSKETINA_WEIGHTS_KERNELS 0
+#define OLSKETINA_WEIGHTS_CHANNELS 1
+#define OLSKETINA_WEIGHTS_ROWS 2
+#define OLSKETINA_WEIGHTS_COLUMNS 3
+#define OLSKETINA_WEIGHTS_PRECISION 4
+#define OLSKETINA_WEIGHTS_WORDS 5
+
 /* Packs raw weights, filled with 0 to a multiple of 128 bytes; later bytes stay.
- * Order: 1, 2, 6, 5, 7 (place: the least raw index at fault). */
-uint32_t olsketina_weights_pack(const uint32_t *weights, const int16_t *elements, size_t elements_len, uint8_t *buffer, size_t buffer_len, size_t *place);
+ * Order: 1, 2, 6, 5, 7 (fault: the least raw index at fault). */
+OLSKETINA_NODISCARD uint32_t olsketina_weights_pack(
+    const uint32_t weights[OLSKETINA_WORDS(OLSKETINA_WEIGHTS_WORDS)],
+    const int16_t *elements, size_t elements_len, uint8_t *buffer, size_t buffer_len, size_t *fault);
 
 /* Reads packed weights back into raw order.
  * Order: 1, 2, 6, 5. */
-uint32_t olsketina_weights_unpack(const uint32_t *weights, const uint8_t *buffer, size_t buffer_len, int16_t *elements, size_t elements_len, size_t *place);
+OLSKETINA_NODISCARD uint32_t olsketina_weights_unpack(
+    const uint32_t weights[OLSKETINA_WORDS(OLSKETINA_WEIGHTS_WORDS)],
+    const uint8_t *buffer, size_t buffer_len, int16_t *elements, size_t elements_len, size_t *fault);
+
+/* The byte at which an element begins, stored in *value.
+ * Order: 1, 2, 9. */
+OLSKETINA_NODISCARD uint32_t olsketina_weights_position(
+    const uint32_t weights[OLSKETINA_WORDS(OLSKETINA_WEIGHTS_WORDS)],
+    uint32_t kernel, uint32_t channel, uint32_t row, uint32_t column, uint64_t *value, size_t *fault);
+
+/* How many elements a setting has, stored in *value.
+ * Order: 1, 2. */
+OLSKETINA_NODISCARD uint32_t olsketina_weights_count(
+    const uint32_t weights[OLSKETINA_WORDS(OLSKETINA_WEIGHTS_WORDS)], uint64_t *value, size_t *fault);
+
+/* How many bytes its packed surface has, filled to a multiple of 128, stored in *value.
+ * Order: 1, 2. */
+OLSKETINA_NODISCARD uint32_t olsketina_weights_extent(
+    const uint32_t weights[OLSKETINA_WORDS(OLSKETINA_WEIGHTS_WORDS)], uint64_t *value, size_t *fault);
 
 /* ---- pixel images */
 
-/* Whether a pixel image's setting is taken.
+/* words of an image's setting */
+#define OLSKETINA_IMAGE_FORMAT 0
+#define OLSKETINA_IMAGE_WIDTH 1
+#define OLSKETINA_IMAGE_HEIGHT 2
+#define OLSKETINA_IMAGE_CHANNELS 3
+#define OLSKETINA_IMAGE_PRECISION 4
+#define OLSKETINA_IMAGE_X_OFFSET 5
+#define OLSKETINA_IMAGE_START 6
+#define OLSKETINA_IMAGE_LINE 7
+#define OLSKETINA_IMAGE_WORDS 8
+
+/* Whether a pixel image's setting is valid.
  * Order: 19, 1, 20, 21, 22. */
-uint32_t olsketina_pixels_setting(const uint32_t *image, size_t *place);
+OLSKETINA_NODISCARD uint32_t olsketina_pixels_setting(
+    const uint32_t image[OLSKETINA_WORDS(OLSKETINA_IMAGE_WORDS)], size_t *fault);
 
 /* The byte at which pixel (x, y) begins, stored in *value.
  * Order: 19, 1, 20, 21, 22, 23. */
-uint32_t olsketina_pixels_position(const uint32_t *image, uint32_t x, uint32_t y, uint64_t *value, size_t *place);
+OLSKETINA_NODISCARD uint32_t olsketina_pixels_position(
+    const uint32_t image[OLSKETINA_WORDS(OLSKETINA_IMAGE_WORDS)], uint32_t x, uint32_t y, uint64_t *value, size_t *fault);
 
 /* ---- integer conversion */
 
 /* (d - offset) * scale over 2^shift, rounded down, held to the precision's range, stored in *value.
  * Order: 2, 16. */
-uint32_t olsketina_quantize_convert(int32_t d, int16_t offset, int16_t scale, uint32_t shift, uint32_t precision, int16_t *value, size_t *place);
+OLSKETINA_NODISCARD uint32_t olsketina_quantize_convert(
+    int32_t d, int16_t offset, int16_t scale, uint32_t shift, uint32_t precision, int16_t *value, size_t *fault);
 
 /* ---- two-table lookup */
 
-/* Answers every sample from a linear X table and the Y table, and adds the samples of each kind to the counters.
- * Order: 11, 12, 13, 14, 15, 16, 18, 17. */
-uint32_t olsketina_lut_run_linear(const int32_t *x, const int32_t *y, const int16_t *scales, const int32_t *shifts, const uint32_t *priorities, const int16_t *xs, size_t xs_len, const int16_t *ys, size_t ys_len, const int32_t *samples, size_t samples_len, int32_t *outputs, size_t outputs_len, uint32_t *counters, size_t *place);
+/* entries of the two tables */
+#define OLSKETINA_X_ENTRIES 65
+#define OLSKETINA_Y_ENTRIES 257
 
-/* The same with an exponential X table: x[0] is its offset.
- * Order: 11, 12, 13, 14, 15, 16, 18, 17. */
-uint32_t olsketina_lut_run_exponential(const int32_t *x, const int32_t *y, const int16_t *scales, const int32_t *shifts, const uint32_t *priorities, const int16_t *xs, size_t xs_len, const int16_t *ys, size_t ys_len, const int32_t *samples, size_t samples_len, int32_t *outputs, size_t outputs_len, uint32_t *counters, size_t *place);
+/* words of a table's settings; of an exponential X table the first is its offset */
+#define OLSKETINA_SETTINGS_SELECT 0
+#define OLSKETINA_SETTINGS_OFFSET 0
+#define OLSKETINA_SETTINGS_START 1
+#define OLSKETINA_SETTINGS_END 2
+#define OLSKETINA_SETTINGS_WORDS 3
 
-/* ---- the camera curve */
+/* the four slopes, each with a scale and a shift */
+#define OLSKETINA_SLOPE_X_BELOW 0
+#define OLSKETINA_SLOPE_X_ABOVE 1
+#define OLSKETINA_SLOPE_Y_BELOW 2
+#define OLSKETINA_SLOPE_Y_ABOVE 3
+#define OLSKETINA_SLOPES 4
+
+/* samples of each kind */
+#define OLSKETINA_COUNTER_X 0
+#define OLSKETINA_COUNTER_Y 1
+#define OLSKETINA_COUNTER_UNDERFLOW 2
+#define OLSKETINA_COUNTER_OVERFLOW 3
+#define OLSKETINA_COUNTER_PRIORITY 4
+#define OLSKETINA_COUNTERS 5
+
+/* Answers every sample from a linear X table and the Y table, and adds the samples of each kind to the counters. The outputs are memory of their
+ * own, never the samples'. priority, overflow and underflow say which table answers where both could: false is X, true is Y.
+ * Order: 11, 12, 13, 14, 15, 16, 18, 17. */
+OLSKETINA_NODISCARD uint32_t olsketina_lut_run_linear(
+    const int32_t x_settings[OLSKETINA_WORDS(OLSKETINA_SETTINGS_WORDS)], const int32_t y_settings[OLSKETINA_WORDS(OLSKETINA_SETTINGS_WORDS)],
+    const int16_t scales[OLSKETINA_WORDS(OLSKETINA_SLOPES)], const int32_t shifts[OLSKETINA_WORDS(OLSKETINA_SLOPES)],
+    bool priority, bool overflow, bool underflow,
+    const int16_t *x_entries, size_t x_entries_len, const int16_t *y_entries, size_t y_entries_len,
+    const int32_t *samples, size_t samples_len, int32_t *outputs, size_t outputs_len,
+    uint32_t counters[OLSKETINA_WORDS(OLSKETINA_COUNTERS)], size_t *fault);
+
+/* The same with an exponential X table: x_settings[OLSKETINA_SETTINGS_OFFSET] is its offset.
+ * Order: 11, 12, 13, 14, 15, 16, 18, 17. */
+OLSKETINA_NODISCARD uint32_t olsketina_lut_run_exponential(
+    const int32_t x_settings[OLSKETINA_WORDS(OLSKETINA_SETTINGS_WORDS)], const int32_t y_settings[OLSKETINA_WORDS(OLSKETINA_SETTINGS_WORDS)],
+    const int16_t scales[OLSKETINA_WORDS(OLSKETINA_SLOPES)], const int32_t shifts[OLSKETINA_WORDS(OLSKETINA_SLOPES)],
+    bool priority, bool overflow, bool underflow,
+    const int16_t *x_entries, size_t x_entries_len, const int16_t *y_entries, size_t y_entries_len,
+    const int32_t *samples, size_t samples_len, int32_t *outputs, size_t outputs_len,
+    uint32_t counters[OLSKETINA_WORDS(OLSKETINA_COUNTERS)], size_t *fault);
+
+/* ---- the ready-made settings of the camera curve */
+
+/* which table a priority bit names, if any; any other word leaves it unnamed too */
+#define OLSKETINA_CHOICE_X 0
+#define OLSKETINA_CHOICE_Y 1
+#define OLSKETINA_CHOICE_UNNAMED 2
+
+/* the priority words that are stored, each 0 (X) or 1 (Y); they are passed on to olsketina_lut_run_linear by value */
+#define OLSKETINA_PRIORITY 0
+#define OLSKETINA_PRIORITY_OVERFLOW 1
+#define OLSKETINA_PRIORITY_UNDERFLOW 2
+#define OLSKETINA_PRIORITIES 3
+
+/* Writes the ready-made settings for olsketina_lut_run_linear. priority, overflow and underflow are choices (OLSKETINA_CHOICE_..).
+ * Order: 14. */
+OLSKETINA_NODISCARD uint32_t olsketina_camera_ready_made(
+    int32_t select, uint32_t priority, uint32_t overflow, uint32_t underflow,
+    int32_t x_settings[OLSKETINA_WORDS(OLSKETINA_SETTINGS_WORDS)], int32_t y_settings[OLSKETINA_WORDS(OLSKETINA_SETTINGS_WORDS)],
+    int16_t scales[OLSKETINA_WORDS(OLSKETINA_SLOPES)], int32_t shifts[OLSKETINA_WORDS(OLSKETINA_SLOPES)],
+    uint32_t priorities[OLSKETINA_WORDS(OLSKETINA_PRIORITIES)], size_t *fault);
+
+/* ---- the camera curve (libolsketina_curve.a) */
 
 /* Entry i of the Y curve; past the last entry (256), the last.
  * Refuses nothing. */
-int16_t olsketina_camera_y_entry(uint32_t i);
+OLSKETINA_NODISCARD int16_t olsketina_camera_y_entry(uint32_t i);
 
 /* Entry j of the X curve; past the last entry (64), the last.
  * Refuses nothing. */
-int16_t olsketina_camera_x_entry(uint32_t j);
+OLSKETINA_NODISCARD int16_t olsketina_camera_x_entry(uint32_t j);
 
-/* Writes the 257 entries of the Y curve.
+/* Writes the entries of the Y curve.
  * Refuses nothing. */
-void olsketina_camera_y_table(int16_t *entries);
+void olsketina_camera_y_table(int16_t entries[OLSKETINA_WORDS(OLSKETINA_Y_ENTRIES)]);
 
-/* Writes the 65 entries of the X curve.
+/* Writes the entries of the X curve.
  * Refuses nothing. */
-void olsketina_camera_x_table(int16_t *entries);
-
-/* Writes the ready-made settings for olsketina_lut_run_linear. Each priority word: 0 names X, 1 names Y, any other leaves the bit unnamed.
- * Order: 14. */
-uint32_t olsketina_camera_ready_made(int32_t select, uint32_t priority, uint32_t overflow, uint32_t underflow, int32_t *x, int32_t *y, int16_t *scales, int32_t *shifts, uint32_t *priorities, size_t *place);
+void olsketina_camera_x_table(int16_t entries[OLSKETINA_WORDS(OLSKETINA_X_ENTRIES)]);
 
 /* ---- sheets */
 
-/* Writes the record that a line is, its newline not counted.
- * Refuses nothing: a line that is no record is "unreadable". */
-void olsketina_records_read(const uint8_t *line, size_t line_len, uint32_t *record);
+/* words of a sheet's state: how many lines ended (low word, high word), the length of the line in progress (held at 121), whether a frame was
+ * accepted (0 is no, any other yes), then the words of its table. Beside it stands `text`, the first bytes of the line in progress. A word that
+ * already says what is to be written stays. */
+#define OLSKETINA_STATE_LINES_LOW 0
+#define OLSKETINA_STATE_LINES_HIGH 1
+#define OLSKETINA_STATE_LENGTH 2
+#define OLSKETINA_STATE_FRAMED 3
+#define OLSKETINA_STATE_TABLE 4
+#define OLSKETINA_STATE_WORDS (OLSKETINA_STATE_TABLE + OLSKETINA_TABLE_WORDS)
+
+/* bytes of a line's text */
+#define OLSKETINA_TEXT_BYTES 120
+
+/* words of a row: 1, then number, refusal, index at fault and value of the line that ended; all 0 where none ended */
+#define OLSKETINA_ROW_ENDED 0
+#define OLSKETINA_ROW_LINE 1
+#define OLSKETINA_ROW_ANSWER 2
+#define OLSKETINA_ROW_FAULT 3
+#define OLSKETINA_ROW_VALUE 4
+#define OLSKETINA_ROW_WORDS 5
 
 /* Writes the state at the beginning of a sheet.
  * Refuses nothing. */
-void olsketina_script_begin(uint32_t *state, uint8_t *text);
+void olsketina_script_begin(uint32_t state[OLSKETINA_WORDS(OLSKETINA_STATE_WORDS)], uint8_t text[OLSKETINA_WORDS(OLSKETINA_TEXT_BYTES)]);
 
-/* Reads a part of the input up to its first newline, or whole; returns how many bytes it read. row has the line that ended.
- * Refuses nothing: a line's refusal is its row's answer. */
-size_t olsketina_script_feed(uint32_t *state, uint8_t *text, const uint8_t *part, size_t part_len, uint64_t *row);
+/* Reads a part of the input up to its first newline, or whole; returns how many bytes it read: the rest is fed by further calls. row has the line
+ * that ended.
+ * Refuses nothing: a line's refusal is in its row. */
+OLSKETINA_NODISCARD size_t olsketina_script_feed(
+    uint32_t state[OLSKETINA_WORDS(OLSKETINA_STATE_WORDS)], uint8_t text[OLSKETINA_WORDS(OLSKETINA_TEXT_BYTES)],
+    const uint8_t *part, size_t part_len, uint64_t row[OLSKETINA_WORDS(OLSKETINA_ROW_WORDS)]);
 
 /* The end of the input: a last line may lack its newline. row has the line that ended.
- * Refuses nothing: a line's refusal is its row's answer. */
-void olsketina_script_finish(uint32_t *state, uint8_t *text, uint64_t *row);
+ * Refuses nothing: a line's refusal is in its row. */
+void olsketina_script_finish(
+    uint32_t state[OLSKETINA_WORDS(OLSKETINA_STATE_WORDS)], uint8_t text[OLSKETINA_WORDS(OLSKETINA_TEXT_BYTES)],
+    uint64_t row[OLSKETINA_WORDS(OLSKETINA_ROW_WORDS)]);
 
-/* ---- elements and numbers */
-
-/* Bytes an element: 1 for precision 0, else 2.
+/* Writes the header that a sheet prints first; returns how many bytes it has, its newline counted. The bytes behind it become 0.
  * Refuses nothing. */
-uint32_t olsketina_elements_element_bytes(uint32_t precision);
+OLSKETINA_NODISCARD uint32_t olsketina_script_header_text(uint8_t text[OLSKETINA_WORDS(OLSKETINA_TEXT_BYTES)]);
 
-/* The low byte of an element.
+/* Writes the text of a row by its number, refusal and value (the words OLSKETINA_ROW_LINE, _ANSWER and _VALUE of a line that ended); returns how
+ * many bytes it has, its newline counted. The bytes behind it become 0.
  * Refuses nothing. */
-uint8_t olsketina_elements_low_byte(int16_t element);
-
-/* The high byte of an element.
- * Refuses nothing. */
-uint8_t olsketina_elements_high_byte(int16_t element);
-
-/* The element of one byte.
- * Refuses nothing. */
-int16_t olsketina_elements_from_byte(uint8_t byte);
-
-/* The element of two bytes.
- * Refuses nothing. */
-int16_t olsketina_elements_from_bytes(uint8_t low, uint8_t high);
-
-/* Whether a precision takes every element; a precision that is not 0 takes all.
- * Order: 7 (place: the least index at fault). */
-uint32_t olsketina_elements_check_values(uint32_t precision, const int16_t *elements, size_t elements_len, size_t *place);
-
-/* x held to low..high.
- * Refuses nothing. */
-int64_t olsketina_integers_saturate(int64_t x, int64_t low, int64_t high);
-
-/* Whether a size is 1 to `most`.
- * Refuses nothing. */
-bool olsketina_refusal_size_valid(uint32_t most, uint32_t n);
+OLSKETINA_NODISCARD uint32_t olsketina_script_row_text(
+    uint64_t line, uint32_t answer, uint64_t value, uint8_t text[OLSKETINA_WORDS(OLSKETINA_TEXT_BYTES)]);
 
 #ifdef __cplusplus
 }
