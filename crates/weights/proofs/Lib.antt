@@ -1,6 +1,7 @@
 -- Laws of the definitions of specs/, for the crates above. The last seven serve the walk alone.
+--     Computed        the paper's weights and the orders of checks, computed
 --     Valid           what accepted sizes tell
---     RuleLaws        checks 1, 2, 6, 5 as the code goes through them
+--     RuleLaws        checks 1, 2, then 6, 5 or 9, as the code goes through them
 --     CallLaws        what an accepted call tells, and what each call answers and leaves
 --     NumberLaws      an element's number by its five digits
 --     OffsetLaws       the digits of each number below the count
@@ -17,6 +18,7 @@
 --     BlockLaws       ..as the code computes them
 --     WalkLaws        the walk over all runs, toward a goal list
 --     WriteLaws, ReadLaws     what writing and reading all runs leave
+pub mod Computed
 pub mod Valid
 pub mod RuleLaws
 pub mod CallLaws

@@ -5,10 +5,12 @@ use mathlib.Core.List.{List, _++_}
 use lib.ListN.{length}
 use lib.IntN.{ℤ}
 use Rattle.refusal.specs.declared.Answer.{Answer}
-use Rattle.refusal.specs.Checks.{inOrder, leaves}
+use Rattle.refusal.specs.declared.Quantity.{Quantity}
+use Rattle.refusal.specs.Checks.{inOrder, leaves, quantity}
 use Rattle.elements.specs.Values.{valueChecks}
 use Rattle.weights.specs.declared.WeightLayout.{WeightLayout}
-use Rattle.weights.specs.Rules.{weightChecks}
+use Rattle.weights.specs.Geometry.{elementCount, elementPosition, surfaceBytes}
+use Rattle.weights.specs.Rules.{settingChecks, weightChecks, elementChecks}
 use Rattle.weights.specs.Contents.{packed, unpacked}
 
 -- pack: 1, 2, 6, 5, 7
@@ -24,3 +26,15 @@ unpackAnswer q given len = inOrder (weightChecks q given len)
 
 unfoldable pub unpackElements : WeightLayout → List ℕ → List ℤ → List ℤ
 unpackElements q buffer before = leaves (unpackAnswer q (length before) (length buffer)) (unpacked q buffer) before
+
+-- the count of elements: 1, 2
+unfoldable pub countQuantity : WeightLayout → Quantity
+countQuantity q = quantity (inOrder (settingChecks q)) (elementCount q)
+
+-- the bytes of the packed surface: 1, 2
+unfoldable pub extentQuantity : WeightLayout → Quantity
+extentQuantity q = quantity (inOrder (settingChecks q)) (surfaceBytes q)
+
+-- the position of an element: 1, 2, 9
+unfoldable pub positionQuantity : WeightLayout → ℕ → ℕ → ℕ → ℕ → Quantity
+positionQuantity q k c r s = quantity (inOrder (elementChecks q k c r s)) (elementPosition q k c r s)

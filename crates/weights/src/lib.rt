@@ -1,4 +1,5 @@
-// Direct-convolution weights, packed and read back (scope paper, "Weights").
+// Direct-convolution weights, packed and read back; positions and counts (scope paper, "Weights").
+mod element;
 mod measure;
 mod read;
 mod rules;
@@ -8,9 +9,10 @@ mod write;
 ghost use mathlib.Core.Path.{_≡_};
 ghost use lib.ListN.{length};
 ghost use Rattle.refusal.specs.Checks.{inOrder};
-ghost use Rattle.weights.specs.Rules.{weightChecks};
-ghost use Rattle.weights.specs.Calls.{packAnswer, packBuffer, unpackAnswer, unpackElements};
+ghost use Rattle.weights.specs.Rules.{settingChecks, weightChecks, elementChecks};
+ghost use Rattle.weights.specs.Calls.{packAnswer, packBuffer, unpackAnswer, unpackElements, countQuantity, extentQuantity, positionQuantity};
 use refusal::Answer;
+use refusal::Quantity;
 use refusal::Refusal;
 
 // Kernels, channels, rows and columns of a weight tensor (the scope paper's K, C, R, S), and its precision code.
@@ -22,9 +24,9 @@ pub struct WeightLayout {
     pub precision: u32,
 }
 
-// Checks 1, 2, 6, 5 of a call that lends `given` elements and a buffer of `len` bytes.
-fn check(layout: WeightLayout, given: usize, len: usize) -> Answer
-    ensures { λ r. ⌜ r ≡ inOrder (weightChecks layout given len) ⌝ }
+// Checks 1, 2 of a setting.
+fn check_setting(layout: WeightLayout) -> Answer
+    ensures { λ r. ⌜ r ≡ inOrder (settingChecks layout) ⌝ }
 {
     if !rules::sizes_valid(layout) {
         return Answer::Refused(Refusal::Size, 0);
@@ -32,6 +34,17 @@ fn check(layout: WeightLayout, given: usize, len: usize) -> Answer
     if 3 <= layout.precision {
         return Answer::Refused(Refusal::Precision, 0);
     }
+    Answer::Accepted
+}
+
+// Checks 1, 2, 6, 5 of a call that lends `given` elements and a buffer of `len` bytes.
+fn check(layout: WeightLayout, given: usize, len: usize) -> Answer
+    ensures { λ r. ⌜ r ≡ inOrder (weightChecks layout given len) ⌝ }
+{
+    let setting = check_setting(layout);
+    let Answer::Accepted = setting else {
+        return setting;
+    };
     if given as u64 != measure::element_count(layout) {
         return Answer::Refused(Refusal::ElementCount, 0);
     }
@@ -72,4 +85,50 @@ pub fn unpack(layout: WeightLayout, buffer: &[u8], elements: &mut [i16]) -> Answ
     };
     read::runs(layout, buffer, elements);
     Answer::Accepted
+}
+
+// How many elements a setting has: checks 1, 2.
+pub fn count(layout: WeightLayout) -> Quantity
+    ensures { λ r. ⌜ r ≡ countQuantity layout ⌝ }
+{
+    match check_setting(layout) {
+        Answer::Refused(refusal, index) => Quantity::Refused(refusal, index),
+        Answer::Accepted => Quantity::Is(measure::element_count(layout)),
+    }
+}
+
+// How many bytes its packed surface has: checks 1, 2.
+pub fn extent(layout: WeightLayout) -> Quantity
+    ensures { λ r. ⌜ r ≡ extentQuantity layout ⌝ }
+{
+    match check_setting(layout) {
+        Answer::Refused(refusal, fault) => Quantity::Refused(refusal, fault),
+        Answer::Accepted => Quantity::Is(measure::surface_bytes(layout)),
+    }
+}
+
+// Checks 1, 2, 9 of an element.
+fn check_element(layout: WeightLayout, kernel: u32, channel: u32, row: u32, column: u32) -> Answer
+    ensures { λ r. ⌜ r ≡ inOrder (elementChecks layout kernel channel row column) ⌝ }
+{
+    let setting = check_setting(layout);
+    let Answer::Accepted = setting else {
+        return setting;
+    };
+    if !rules::element_inside(layout, kernel, channel, row, column) {
+        return Answer::Refused(Refusal::Bounds, 0);
+    }
+    Answer::Accepted
+}
+
+// The byte at which an element begins: checks 1, 2, 9.
+pub fn position(layout: WeightLayout, kernel: u32, channel: u32, row: u32, column: u32) -> Quantity
+    ensures { λ r. ⌜ r ≡ positionQuantity layout kernel channel row column ⌝ }
+{
+    match check_element(layout, kernel, channel, row, column) {
+        Answer::Refused(refusal, at) => Quantity::Refused(refusal, at),
+        Answer::Accepted => {
+            Quantity::Is(element::position_of(layout, kernel, channel, row, column))
+        }
+    }
 }

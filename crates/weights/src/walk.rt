@@ -18,21 +18,21 @@ pub(crate) struct Run {
 }
 
 // Kernels of a full group.
-fn group_size(precision: u32) -> u32
+pub(crate) fn group_size(precision: u32) -> u32
     ensures { λ r. ⌜ r ≡ groupSize precision ⌝ }
 {
     if precision == 0 { 32 } else { 16 }
 }
 
 // The lesser of two numbers.
-fn least(a: u32, b: u32) -> u32
+pub(crate) fn least(a: u32, b: u32) -> u32
     ensures { λ r. ⌜ r ≡ min a b ⌝ }
 {
     if b < a { b } else { a }
 }
 
 // Kernels of the group that begins with kernel `first`.
-fn group_kernels(layout: WeightLayout, first: u32) -> u32
+pub(crate) fn group_kernels(layout: WeightLayout, first: u32) -> u32
     requires { ⌜ first < layout .kernels ⌝ }
     ensures { λ r. ⌜ r ≡ min (groupOf layout) (layout .kernels - first) ⌝ }
 {

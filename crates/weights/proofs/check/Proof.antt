@@ -1,67 +1,69 @@
 -- `weights::check` meets its contract: it makes the definition's checks in their order. Assumes nothing.
 use Prim.Native.Nat.{ℕ, _≤_, _<_}
 use mathlib.Core.Path.{_≡_, sym, _∙_, subst}
-use mathlib.Core.Bool.{true}
-use borrow.Author.Tests.{not-true, not-false}
-use Rattle.weights.specs.Rules.{sizesValid}
-use Rattle.weights.proofs.RuleLaws.{check-sizes, check-precision, check-count, check-room, check-valid}
+use Rattle.refusal.specs.declared.Answer.the-variants.{Accepted}
+use Rattle.refusal.specs.Checks.{inOrder}
+use Rattle.weights.specs.Rules.{settingChecks}
+use Rattle.weights.proofs.RuleLaws.{setting-held, check-setting, check-count, check-room, check-valid}
 use borrow.Author.Needs.{needs}
 use Rattle.weights.proofs.check.Statement.{statement}
 use Rattle.weights.proofs.check.Tie as tie
 
--- the sizes were valid
-held : (c : tie.Else1) → sizesValid (c .before .before .args .layout) ≡ true
-held c = sym (c .before .sizes-valid .ensures) ∙ not-false _ (c .if1 .left)
+-- checks 1, 2 passed
+passed : (c : tie.After-enum-told) → inOrder (settingChecks (c .before .before .before .args .layout)) ≡ Accepted
+passed c = sym (c .before .before .check-setting .ensures) ∙ c .enum-told .given .1
 
-sizes-valid-requires : tie.Need-sizes-valid-requires
-sizes-valid-requires c κs = search needs
+check-setting-requires : tie.Need-check-setting-requires
+check-setting-requires c κs = search needs
+
+enum-told : tie.Need-enum-told
+enum-told c = search needs
+
+enum-told-2 : tie.Need-enum-told-2
+enum-told-2 c = search needs
 
 returns : tie.Need-returns
-returns c = let a = c .before .before .args in
-    check-sizes (a .layout) (a .given) (a .len) (sym (c .before .sizes-valid .ensures) ∙ not-true _ (c .if1 .taken))
+returns c =
+    let d = c .before .before in
+    let a = d .before .args in
+    let refused = c .enum-told2 .given .1 in
+    refused ∙ sym (check-setting (a .layout) (a .given) (a .len) (sym (d .check-setting .ensures) ∙ refused))
+
+element-count-requires : tie.Need-element-count-requires
+element-count-requires c κs = setting-held _ (passed c)
 
 returns-2 : tie.Need-returns-2
 returns-2 c = let d = c .before .before in
-    let a = d .before .before .args in
-    check-precision (a .layout) (a .given) (a .len) (held d) (c .if2 .taken)
-
-element-count-requires : tie.Need-element-count-requires
-element-count-requires c κs = held (c .before .before)
-
-returns-3 : tie.Need-returns-3
-returns-3 c = let p = c .before .before in
-    let d = p .before .before in
-    let a = d .before .before .args in
-    check-count (a .layout) (a .given) (a .len) (held d) (p .if2 .left) (λ e. c .if3 .taken (e ∙ sym (c .before .element-count .ensures)))
+    let a = d .before .before .before .args in
+    check-count (a .layout) (a .given) (a .len) (passed d) (λ e. c .if1 .taken (e ∙ sym (c .before .element-count .ensures)))
 
 surface-bytes-requires : tie.Need-surface-bytes-requires
-surface-bytes-requires c κs = held (c .before .before .before .before)
+surface-bytes-requires c κs = setting-held _ (passed (c .before .before))
+
+returns-3 : tie.Need-returns-3
+returns-3 c = let n = c .before .before in
+    let d = n .before .before in
+    let a = d .before .before .before .args in
+    check-room (a .layout) (a .given) (a .len) (passed d) (n .if1 .left ∙ n .before .element-count .ensures)
+    (subst (λ (s : ℕ). a .len < s) (c .before .surface-bytes .ensures) (c .if2 .taken))
 
 returns-4 : tie.Need-returns-4
 returns-4 c = let n = c .before .before in
-    let p = n .before .before in
-    let d = p .before .before in
-    let a = d .before .before .args in
-    check-room (a .layout) (a .given) (a .len) (held d) (p .if2 .left) (n .if3 .left ∙ n .before .element-count .ensures)
-    (subst (λ (s : ℕ). a .len < s) (c .before .surface-bytes .ensures) (c .if4 .taken))
-
-returns-5 : tie.Need-returns-5
-returns-5 c = let n = c .before .before in
-    let p = n .before .before in
-    let d = p .before .before in
-    let a = d .before .before .args in
-    check-valid (a .layout) (a .given) (a .len) (held d) (p .if2 .left) (n .if3 .left ∙ n .before .element-count .ensures)
-    (subst (λ (s : ℕ). s ≤ a .len) (c .before .surface-bytes .ensures) (c .if4 .left))
+    let d = n .before .before in
+    let a = d .before .before .before .args in
+    check-valid (a .layout) (a .given) (a .len) (passed d) (n .if1 .left ∙ n .before .element-count .ensures)
+    (subst (λ (s : ℕ). s ≤ a .len) (c .before .surface-bytes .ensures) (c .if2 .left))
 
 pub check-spec : {M : Type 1} → statement M
 check-spec =
     tie.close
     (tie.spec
-    sizes-valid-requires
+    check-setting-requires
+    enum-told
+    enum-told-2
     returns
-    returns-2
     element-count-requires
-    returns-3
+    returns-2
     surface-bytes-requires
-    returns-4
-    returns-5)
+    returns-3
+    returns-4)
