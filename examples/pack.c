@@ -14,18 +14,18 @@ enum { ELEMENTS = 3 * 2 * 40, BYTES = 480, ATOM = 32 };
 int main(void)
 {
     /* Three columns, two rows and forty channels of int8; 128 bytes from line to line, 256 from surface to surface, start 0. */
-    const uint32_t layout[7] = {3, 2, 40, 0, 128, 256, 0};
+    const uint32_t layout[OLSKETINA_LAYOUT_WORDS] = {3, 2, 40, 0, 128, 256, 0};
     int16_t elements[ELEMENTS];
     uint8_t buffer[BYTES];
-    size_t place = 0;
+    size_t fault = 0;
 
     for (int i = 0; i < ELEMENTS; i++)
         elements[i] = (int16_t)(i % 251 - 125);
     memset(buffer, 0xee, sizeof buffer); /* what packing does not write stays and shows */
 
-    const uint32_t refusal = olsketina_cube_pack(layout, elements, ELEMENTS, buffer, BYTES, &place);
+    const uint32_t refusal = olsketina_cube_pack(layout, elements, ELEMENTS, buffer, BYTES, &fault);
     if (refusal != 0) {
-        fprintf(stderr, "refused %" PRIu32 ", index %zu\n", refusal, place);
+        fprintf(stderr, "refused %" PRIu32 ", index %zu: %s\n", refusal, fault, olsketina_sentence(refusal));
         return 1;
     }
 

@@ -1,137 +1,254 @@
--- A table stored as words is read back as that table. Assumes nothing.
+-- A table as words: read so far, written so far; a table written is read back, and one written over its own words changes none. Assumes nothing.
 --     slots-next, slots-all                 the slots read so far
---     regions-none, regions-next            the slots stored so far
---     region-kept .. layout-there           what each part stored leaves and says
---     decoded                               the table that a stored table's words say is that table
-use Prim.Native.Nat.{ℕ, zero, suc, _+_, _*_, _≤_, _<_}
+--     first-none, first-next, first-all     the words written so far
+--     table-length, table-in, table-out     the words after a table was written
+--     tableWord-layout, tableWord-slot      word i of a table
+--     decoded                               a table written is read back
+--     encoded                               a table written over its own words
+--     slot-other                            the words of a table in which one slot changed
+use Prim.Native.Nat.{ℕ, zero, suc, _+_, _-_, _*_, _/_, _%_, _≤_, _<_}
 use native.Mathlib.Omega.{arith}
 use native.Mathlib.Decide.{decLe}
-use native.Mathlib.Numerals.{add-one}
-use native.Mathlib.Nat.{add-zero, eq-or-lt-of-le, not-suc-le-zero}
+use native.Mathlib.Nat.{add-zero, eq-or-lt-of-le}
 use mathlib.Core.Path.{_≡_, refl, sym, ap, _∙_, subst}
+use mathlib.Core.Bool.{true, false, _&&_, cond}
 use mathlib.Core.Logic.{⊎-elim}
 use mathlib.Core.List.{List}
-use lib.ListN.{length, getD, set}
+use lib.ListN.{length, getD, set, length-set, List·getD-eq-default}
+use lib.Dec.{leb, ltb}
 use lib.Seq.{getD-set-same, getD-set-other, ext-getD}
+use borrow.Author.Tests.{lt-ltb, le-ltb, le-leb, lt-leb}
+use Rattle.refusal.proofs.TestLaws.{and-both}
+use Rattle.elements.specs.Lists.{remade}
+use Rattle.elements.proofs.ListLaws.{length-remade, getD-remade}
 use Rattle.elements.proofs.TabulateLaws.{length-tabulate, getD-tabulate}
 use Rattle.layout.specs.declared.CubeLayout.{CubeLayout}
 use Rattle.regions.specs.declared.Region.{Region}
 use Rattle.regions.specs.declared.RegionTable.{RegionTable}
-use Rattle.olsketina.specs.Words.{word}
-use Rattle.olsketina.specs.Tables.{layoutAt, regionAt, slotsAt, tableAt, flagWord, withWords, layoutWords, regionWords, withLayout, withRegion, noRegion, withRegions, withTable}
-use Rattle.olsketina.proofs.StoreLaws.{withWords-before, withWords-after, withWords-at, withLayout-length, withRegions-length, says-flag}
+use Rattle.olsketina.specs.Sizes.{layoutSize, slotSize, slotCount, tableSize}
+use Rattle.olsketina.specs.Words.{word, layoutAt}
+use Rattle.olsketina.specs.Tables.{regionAt, slotsAt, tableAt, layoutWords, regionWords, noRegion, tableWord, withTable}
+use Rattle.olsketina.specs.Steps.{withFirst}
+use Rattle.olsketina.proofs.WordLaws.{says-flag, flagWord-says}
 
 -- ---- the slots read so far
 
 -- slot j of the list is that of its words
 abbrev pub SlotsRead : List ℕ → ℕ → List Region → ℕ → Type 0
-SlotsRead l at slots n = (j : ℕ) → j < n → getD slots j noRegion ≡ regionAt l (at + 5 * j)
+SlotsRead l at slots n = (j : ℕ) → j < n → getD slots j noRegion ≡ regionAt l (at + slotSize * j)
 
-pub slots-next : (l : List ℕ) (at : ℕ) (slots : List Region) (n : ℕ) {g : Region} → n < length slots → SlotsRead l at slots n → g ≡ regionAt l (at + 5 * n)
+pub slots-next : (l : List ℕ) (at : ℕ) (slots : List Region) (n : ℕ) {g : Region} → n < length slots → SlotsRead l at slots n → g ≡ regionAt l (at + slotSize * n)
     → SlotsRead l at (set slots n g) (n + 1)
 slots-next l at slots n {g} room read e j h =
     ⊎-elim
-    (λ s. subst (λ (k : ℕ). getD (set slots n g) k noRegion ≡ regionAt l (at + 5 * k)) (sym s) (getD-set-same slots n g noRegion room ∙ e))
+    (λ s. subst (λ (k : ℕ). getD (set slots n g) k noRegion ≡ regionAt l (at + slotSize * k)) (sym s) (getD-set-same slots n g noRegion room ∙ e))
     (λ lt. getD-set-other slots n j g noRegion (λ s. let z : ⊥ = omega arith in z) ∙ read j lt)
     (eq-or-lt-of-le (let k : j ≤ n = omega arith in k))
 
-pub slots-all : (l : List ℕ) (at : ℕ) (slots : List Region) → length slots ≡ 16 → SlotsRead l at slots 16 → slots ≡ slotsAt l at
+pub slots-all : (l : List ℕ) (at : ℕ) (slots : List Region) → length slots ≡ slotCount → SlotsRead l at slots slotCount → slots ≡ slotsAt l at
 unfolding slotsAt
 slots-all l at slots long read =
-    ext-getD noRegion slots _ (long ∙ sym (length-tabulate (λ (i : ℕ). regionAt l (at + 5 * i)) 16))
-    (λ i h. let low : i < 16 = omega (arith, h, long) in
-    read i low ∙ sym (getD-tabulate (λ (i : ℕ). regionAt l (at + 5 * i)) 16 i noRegion low))
+    ext-getD noRegion slots _ (long ∙ sym (length-tabulate (λ (i : ℕ). regionAt l (at + slotSize * i)) slotCount))
+    (λ i h. let low : i < slotCount = omega (arith, h, long) in
+    read i low ∙ sym (getD-tabulate (λ (i : ℕ). regionAt l (at + slotSize * i)) slotCount i noRegion low))
 
--- ---- the slots stored so far
-pub regions-none : (slots : List Region) (at : ℕ) (l : List ℕ) → l ≡ withRegions slots at 0 l
-unfolding withRegions
-regions-none slots at l = refl
+-- ---- the words written so far
 
-pub regions-next : (slots : List Region) (at n : ℕ) {l after : List ℕ} (before : List ℕ) → l ≡ withRegions slots at n before
-    → after ≡ withRegion (getD slots n noRegion) (at + 5 * n) l → after ≡ withRegions slots at (n + 1) before
-unfolding withRegions
-regions-next slots at n before e f = rw (add-one n) (f ∙ ap (withRegion (getD slots n noRegion) (at + 5 * n)) e)
+-- p is none of n words from `at` on
+abbrev pub Outside : ℕ → ℕ → ℕ → Type 0
+Outside at n p = at ≤ p → p < at + n → ⊥
 
--- ---- stored and read back
+among : (at n p : ℕ) → at ≤ p → p < at + n → (leb at p && ltb p (at + n)) ≡ true
+among at n p low high = and-both (le-leb at p low) (lt-ltb p (at + n) high)
 
-module _ (g : Region) (at : ℕ) (l : List ℕ) where
-  pub region-kept : (p : ℕ) → (at ≤ p → p < at + 5 → ⊥) → word (withRegion g at l) p ≡ word l p
-  unfolding withRegion regionWords
-  region-kept p out =
-      elim (decLe at p) [ yes h ↦ withWords-after (regionWords g (word l at)) at 0 l p (elim (decLe (at + 5) p) [ yes k ↦ omega arith | no f ↦ absurd (out h (omega arith)) ]) | no f ↦ withWords-before (regionWords g (word l at)) at 0 l p (omega arith) ]
+apart : (at n p : ℕ) → Outside at n p → (leb at p && ltb p (at + n)) ≡ false
+apart at n p out =
+    elim (decLe at p) [
+      | yes low ↦ rw (le-leb at p low) (le-ltb p (at + n) (elim (decLe (at + n) p) [ yes past ↦ past | no f ↦ absurd (out low (omega arith)) ]))
+      | no f ↦ rw (lt-leb at p (omega arith))
+    ]
 
-  pub region-word : at + 5 ≤ length l → (j : ℕ) → j < 5 → word (withRegion g at l) (at + j) ≡ getD (regionWords g (word l at)) j 0
-  unfolding withRegion regionWords
-  region-word room j h =
-      ap (λ (p : ℕ). word (withWords (regionWords g (word l at)) at 0 l) p) (omega arith) ∙ withWords-at (regionWords g (word l at)) at 0 l (omega arith) j h
+module _ (t : RegionTable) (at n : ℕ) (l : List ℕ) where
+  pub first-length : length (withFirst t at n l) ≡ length l
+  unfolding withFirst
+  first-length = length-remade (λ (p old : ℕ). cond (leb at p && ltb p (at + n)) (tableWord t (p - at) old) old) l
 
-  region-there : at + 5 ≤ length l → regionAt (withRegion g at l) at ≡ g
-  unfolding regionAt regionWords
-  region-there room =
-      let first : word (withRegion g at l) at ≡ flagWord (g .placed) (word l at) = ap (λ (p : ℕ). word (withRegion g at l) p) (sym (add-zero at)) ∙ region-word room 0 (omega arith) in
-      rw (
-        first,
-        says-flag (g .placed) (word l at),
-        region-word room 1 (omega arith),
-        region-word room 2 (omega arith),
-        region-word room 3 (omega arith),
-        region-word room 4 (omega arith),
-      )
+  first-word : (p : ℕ) → p < length l → word (withFirst t at n l) p ≡ cond (leb at p && ltb p (at + n)) (tableWord t (p - at) (word l p)) (word l p)
+  unfolding withFirst
+  first-word p h = getD-remade (λ (p old : ℕ). cond (leb at p && ltb p (at + n)) (tableWord t (p - at) old) old) l p 0 h
 
--- a slot depends on its five words alone
-regionAt-ext : (l m : List ℕ) (at : ℕ) → ((j : ℕ) → j < 5 → word l (at + j) ≡ word m (at + j)) → regionAt l at ≡ regionAt m at
-unfolding regionAt
-regionAt-ext l m at e =
-    let first : word l at ≡ word m at = ap (λ (p : ℕ). word l p) (sym (add-zero at)) ∙ e 0 (omega arith) ∙ ap (λ (p : ℕ). word m p) (add-zero at) in
-    rw (first, e 1 (omega arith), e 2 (omega arith), e 3 (omega arith), e 4 (omega arith))
+  pub first-in : (p : ℕ) → p < length l → at ≤ p → p < at + n → word (withFirst t at n l) p ≡ tableWord t (p - at) (word l p)
+  first-in p h low high = first-word p h ∙ rw (among at n p low high)
 
--- each slot stored is read back
-regions-there : (slots : List Region) (at n : ℕ) (l : List ℕ) → at + 5 * n ≤ length l → (j : ℕ) → j < n → regionAt (withRegions slots at n l) (at + 5 * j) ≡ getD slots j noRegion
-unfolding withRegions
-regions-there slots at zero l room j h = absurd (not-suc-le-zero h)
-regions-there slots at (suc n) l room j h =
-    let done = withRegions slots at n l in
-    let g = getD slots n noRegion in
-    let fits : at + 5 * n + 5 ≤ length done = subst (λ (m : ℕ). at + 5 * n + 5 ≤ m) (sym (withRegions-length slots at n l)) (omega arith) in
-    ⊎-elim
-    (λ s. subst (λ (k : ℕ). regionAt (withRegion g (at + 5 * n) done) (at + 5 * k) ≡ getD slots k noRegion) (sym s) (region-there g (at + 5 * n) done fits))
-    (λ lt. regionAt-ext (withRegion g (at + 5 * n) done) done (at + 5 * j) (λ i hi. region-kept g (at + 5 * n) done (at + 5 * j + i) (λ a b. let z : ⊥ = omega arith in z)) ∙ regions-there slots at n l (omega arith) j lt)
-    (eq-or-lt-of-le (let k : j ≤ n = omega arith in k))
+  pub first-out : (p : ℕ) → Outside at n p → word (withFirst t at n l) p ≡ word l p
+  first-out p out =
+      elim (decLe (length l) p) [
+        | yes past ↦ List·getD-eq-default (withFirst t at n l) 0 (omega (arith, first-length)) ∙ sym (List·getD-eq-default l 0 past)
+        | no f ↦ first-word p (omega arith) ∙ rw (apart at n p out)
+      ]
 
--- words before the slots stay
-pub regions-before : (slots : List Region) (at n : ℕ) (l : List ℕ) (p : ℕ) → p < at → word (withRegions slots at n l) p ≡ word l p
-unfolding withRegions
-regions-before slots at zero l p h = refl
-regions-before slots at (suc n) l p h =
-    region-kept (getD slots n noRegion) (at + 5 * n) (withRegions slots at n l) p (λ a b. let z : ⊥ = omega arith in z) ∙ regions-before slots at n l p h
+pub first-none : (t : RegionTable) (at : ℕ) (l : List ℕ) → l ≡ withFirst t at 0 l
+first-none t at l = ext-getD 0 l _ (sym (first-length t at 0 l)) (λ p h. sym (first-out t at 0 l p (λ a b. let z : ⊥ = omega arith in z)))
 
--- words before the table stay
-pub table-before : (t : RegionTable) (at : ℕ) (l : List ℕ) (p : ℕ) → p < at → word (withTable t at l) p ≡ word l p
-unfolding withTable withLayout
-table-before t at l p h = regions-before (t .slots) (at + 7) 16 (withLayout (t .layout) at l) p (omega arith) ∙ withWords-before (layoutWords (t .layout)) at 0 l p (omega arith)
+pub first-next : (t : RegionTable) (at n : ℕ) (l : List ℕ) {m after : List ℕ} → at + n < length l → m ≡ withFirst t at n l → after ≡ set m (at + n) (tableWord t n (word m (at + n)))
+    → after ≡ withFirst t at (n + 1) l
+first-next t at n l {m} {after} room e f =
+    let long : length m ≡ length l = ap length e ∙ first-length t at n l in
+    let last : word m (at + n) ≡ word l (at + n) = ap (λ (x : List ℕ). word x (at + n)) e ∙ first-out t at n l (at + n) (λ a b. let z : ⊥ = omega arith in z) in
+    let here : tableWord t n (word m (at + n)) ≡ word (withFirst t at (n + 1) l) (at + n) =
+    ap (tableWord t n) last ∙ ap (λ (i : ℕ). tableWord t i (word l (at + n))) (omega arith) ∙ sym (first-in t at (n + 1) l (at + n) room (omega arith) (omega arith)) in
+    let there : (p : ℕ) → (p ≡ at + n → ⊥) → p < length l → word m p ≡ word (withFirst t at (n + 1) l) p =
+    λ p other h. ap (λ (x : List ℕ). word x p) e ∙ elim (decLe at p) [
+      | yes low ↦ elim (decLe (at + n) p) [
+        | yes past ↦ first-out t at n l p (λ a b. let z : ⊥ = omega arith in z) ∙ sym (first-out t at (n + 1) l p (λ a b. other (omega arith)))
+        | no g ↦ first-in t at n l p h low (omega arith) ∙ sym (first-in t at (n + 1) l p h low (omega arith))
+      ]
+      | no g ↦ first-out t at n l p (λ a b. let z : ⊥ = omega arith in z) ∙ sym (first-out t at (n + 1) l p (λ a b. let z : ⊥ = omega arith in z))
+    ] in
+    f ∙ ext-getD 0 (set m (at + n) (tableWord t n (word m (at + n)))) _ (length-set m (at + n) (tableWord t n (word m (at + n))) ∙ long ∙ sym (first-length t at (n + 1) l))
+    (λ p h. let within : p < length l = omega (arith, h, length-set m (at + n) (tableWord t n (word m (at + n))), long) in
+    elim (decLe (at + n) p) [
+      | yes low ↦ elim (decLe p (at + n)) [
+        | yes high ↦ let same : at + n ≡ p = omega arith in
+            subst (λ (k : ℕ). word (set m (at + n) (tableWord t n (word m (at + n)))) k ≡ word (withFirst t at (n + 1) l) k) same
+            (getD-set-same m (at + n) (tableWord t n (word m (at + n))) 0 (omega (arith, long)) ∙ here)
+        | no g ↦ getD-set-other m (at + n) p (tableWord t n (word m (at + n))) 0 (λ s. let z : ⊥ = omega arith in z) ∙ there p (λ s. let z : ⊥ = omega arith in z) within
+      ]
+      | no g ↦ getD-set-other m (at + n) p (tableWord t n (word m (at + n))) 0 (λ s. let z : ⊥ = omega arith in z) ∙ there p (λ s. let z : ⊥ = omega arith in z) within
+    ])
 
--- words after a layout's stay
-pub layout-after : (q : CubeLayout) (at : ℕ) (l : List ℕ) (p : ℕ) → at + 7 ≤ p → word (withLayout q at l) p ≡ word l p
-unfolding withLayout layoutWords
-layout-after q at l p h = withWords-after (layoutWords q) at 0 l p (omega arith)
+-- ---- a table written
+module _ (t : RegionTable) (at : ℕ) (l : List ℕ) where
+  pub first-all : withFirst t at tableSize l ≡ withTable t at l
+  unfolding withFirst withTable
+  first-all = refl
 
--- a layout stored is read back
-pub layout-word : (q : CubeLayout) (at : ℕ) (l : List ℕ) → at + 7 ≤ length l → (j : ℕ) → j < 7 → word (withLayout q at l) (at + j) ≡ getD (layoutWords q) j 0
-unfolding withLayout layoutWords
-layout-word q at l room j h = ap (λ (p : ℕ). word (withWords (layoutWords q) at 0 l) p) (omega arith) ∙ withWords-at (layoutWords q) at 0 l (omega arith) j h
+  pub table-length : length (withTable t at l) ≡ length l
+  table-length = ap length (sym first-all) ∙ first-length t at tableSize l
 
-layout-there : (q : CubeLayout) (at : ℕ) (slots : List Region) (l : List ℕ) → at + 7 ≤ length l → layoutAt (withRegions slots (at + 7) 16 (withLayout q at l)) at ≡ q
-unfolding layoutAt layoutWords
-layout-there q at slots l room =
-    let w : (j : ℕ) → j < 7 → word (withRegions slots (at + 7) 16 (withLayout q at l)) (at + j) ≡ getD (layoutWords q) j 0 = λ j h. regions-before slots (at + 7) 16 (withLayout q at l) (at + j) (omega arith) ∙ layout-word q at l room j h in
-    let first = ap (λ (p : ℕ). word (withRegions slots (at + 7) 16 (withLayout q at l)) p) (sym (add-zero at)) ∙ w 0 (omega arith) in
-    rw (first, w 1 (omega arith), w 2 (omega arith), w 3 (omega arith), w 4 (omega arith), w 5 (omega arith), w 6 (omega arith))
+  pub table-out : (p : ℕ) → Outside at tableSize p → word (withTable t at l) p ≡ word l p
+  table-out p out = ap (λ (x : List ℕ). word x p) (sym first-all) ∙ first-out t at tableSize l p out
 
--- decoding what was encoded gives the table back
-pub decoded : (t : RegionTable) (at : ℕ) (l : List ℕ) → length (t .slots) ≡ 16 → at + 87 ≤ length l → tableAt (withTable t at l) at ≡ t
-unfolding tableAt withTable
-decoded t at l long room =
-    let there = withLayout (t .layout) at l in
-    let fits : at + 7 + 5 * 16 ≤ length there = subst (λ (m : ℕ). at + 7 + 5 * 16 ≤ m) (sym (withLayout-length (t .layout) at l)) (omega arith) in
-    let slots-there = slots-all (withRegions (t .slots) (at + 7) 16 there) (at + 7) (t .slots) long (λ j h. sym (regions-there (t .slots) (at + 7) 16 there fits j h)) in
-    rw (layout-there (t .layout) at (t .slots) l (omega arith), ← slots-there)
+  pub table-in : (i : ℕ) → i < tableSize → at + i < length l → word (withTable t at l) (at + i) ≡ tableWord t i (word l (at + i))
+  table-in i h room =
+      ap (λ (x : List ℕ). word x (at + i)) (sym first-all) ∙ first-in t at tableSize l (at + i) room (omega arith) (omega arith) ∙ ap (λ (j : ℕ). tableWord t j (word l (at + i))) (omega arith)
+
+-- ---- word i of a table
+pub tableWord-layout : (t : RegionTable) (i old : ℕ) → i < layoutSize → tableWord t i old ≡ word (layoutWords (t .layout)) i
+unfolding tableWord
+tableWord-layout t i old h = rw (lt-ltb i layoutSize h)
+
+pub tableWord-slot : (t : RegionTable) (i old : ℕ) → layoutSize ≤ i
+    → tableWord t i old ≡ word (regionWords (getD (t .slots) ((i - layoutSize) / slotSize) noRegion) old) ((i - layoutSize) % slotSize)
+unfolding tableWord
+tableWord-slot t i old h = rw (le-ltb i layoutSize h)
+
+-- word j of slot k
+slot-word : (t : RegionTable) (k j old : ℕ) → j < slotSize → tableWord t (layoutSize + slotSize * k + j) old ≡ word (regionWords (getD (t .slots) k noRegion) old) j
+slot-word t k j old h =
+    let slot : (layoutSize + slotSize * k + j - layoutSize) / slotSize ≡ k = omega arith in
+    let place : (layoutSize + slotSize * k + j - layoutSize) % slotSize ≡ j = omega arith in
+    tableWord-slot t (layoutSize + slotSize * k + j) old (omega arith) ∙ rw (slot, place)
+
+-- ---- a table written is read back
+
+module _ (t : RegionTable) (at : ℕ) (l : List ℕ) (room : at + tableSize ≤ length l) where
+  layout-there : layoutAt (withTable t at l) at ≡ t .layout
+  unfolding tableWord
+  layout-there =
+      let w : (j : ℕ) → j < tableSize → word (withTable t at l) (at + j) ≡ tableWord t j (word l (at + j)) = λ j h. table-in t at l j h (omega arith) in
+      let first : word (withTable t at l) at ≡ t .layout .width = ap (λ (p : ℕ). word (withTable t at l) p) (sym (add-zero at)) ∙ w 0 (omega arith) in
+      rw (first, w 1 (omega arith), w 2 (omega arith), w 3 (omega arith), w 4 (omega arith), w 5 (omega arith), w 6 (omega arith))
+
+  region-there : (k : ℕ) → k < slotCount → regionAt (withTable t at l) (at + layoutSize + slotSize * k) ≡ getD (t .slots) k noRegion
+  region-there k h =
+      let g = getD (t .slots) k noRegion in
+      let from = at + layoutSize + slotSize * k in
+      let old = word l from in
+      let w : (j : ℕ) → j < slotSize → word (withTable t at l) (from + j) ≡ word (regionWords g (word l (from + j))) j =
+      λ j hj. ap (λ (p : ℕ). word (withTable t at l) p) (let e : from + j ≡ at + (layoutSize + slotSize * k + j) = omega arith in e)
+      ∙ table-in t at l (layoutSize + slotSize * k + j) (omega arith) (omega arith)
+      ∙ slot-word t k j (word l (at + (layoutSize + slotSize * k + j))) hj
+      ∙ ap (λ (p : ℕ). word (regionWords g (word l p)) j) (omega arith) in
+      let first : word (withTable t at l) from ≡ word (regionWords g (word l from)) 0 =
+      ap (λ (p : ℕ). word (withTable t at l) p) (sym (add-zero from)) ∙ w 0 (omega arith) ∙ ap (λ (p : ℕ). word (regionWords g (word l p)) 0) (add-zero from) in
+      rw (first, says-flag (g .placed) old, w 1 (omega arith), w 2 (omega arith), w 3 (omega arith), w 4 (omega arith))
+
+  pub decoded : length (t .slots) ≡ slotCount → tableAt (withTable t at l) at ≡ t
+  unfolding tableAt
+  decoded long =
+      let slots-there = slots-all (withTable t at l) (at + layoutSize) (t .slots) long (λ k h. sym (region-there k h)) in
+      rw (layout-there, ← slots-there)
+
+-- ---- a table written over its own words
+layout-same : (l : List ℕ) (at j : ℕ) → j < layoutSize → word (layoutWords (layoutAt l at)) j ≡ word l (at + j)
+layout-same l at zero h = ap (λ (p : ℕ). word l p) (sym (add-zero at))
+layout-same l at (suc zero) h = refl
+layout-same l at (suc (suc zero)) h = refl
+layout-same l at (suc (suc (suc zero))) h = refl
+layout-same l at (suc (suc (suc (suc zero)))) h = refl
+layout-same l at (suc (suc (suc (suc (suc zero))))) h = refl
+layout-same l at (suc (suc (suc (suc (suc (suc zero)))))) h = refl
+layout-same l at (suc (suc (suc (suc (suc (suc (suc j))))))) h = absurd (let z : ⊥ = omega arith in z)
+
+region-same : (l : List ℕ) (at j : ℕ) → j < slotSize → word (regionWords (regionAt l at) (word l (at + j))) j ≡ word l (at + j)
+region-same l at zero h = rw (add-zero at) (flagWord-says (word l at))
+region-same l at (suc zero) h = refl
+region-same l at (suc (suc zero)) h = refl
+region-same l at (suc (suc (suc zero))) h = refl
+region-same l at (suc (suc (suc (suc zero)))) h = refl
+region-same l at (suc (suc (suc (suc (suc j))))) h = absurd (let z : ⊥ = omega arith in z)
+
+tableAt-layout : (l : List ℕ) (at : ℕ) → tableAt l at .layout ≡ layoutAt l at
+unfolding tableAt
+tableAt-layout l at = refl
+
+tableAt-slot : (l : List ℕ) (at k : ℕ) → k < slotCount → getD (tableAt l at .slots) k noRegion ≡ regionAt l (at + layoutSize + slotSize * k)
+unfolding tableAt slotsAt
+tableAt-slot l at k h = getD-tabulate (λ (i : ℕ). regionAt l (at + layoutSize + slotSize * i)) slotCount k noRegion h
+
+pub word-same : (l : List ℕ) (at i : ℕ) → i < tableSize → tableWord (tableAt l at) i (word l (at + i)) ≡ word l (at + i)
+word-same l at i h =
+    elim (decLe layoutSize i) [
+      | yes past ↦
+          let k = (i - layoutSize) / slotSize in
+          let j = (i - layoutSize) % slotSize in
+          let cut : layoutSize + slotSize * k + j ≡ i = omega arith in
+          subst (λ (n : ℕ). tableWord (tableAt l at) n (word l (at + n)) ≡ word l (at + n)) cut (slot-same k j (omega arith) (omega arith))
+      | no f ↦ layout-word (omega arith)
+    ]
+  where
+    layout-word : i < layoutSize → tableWord (tableAt l at) i (word l (at + i)) ≡ word l (at + i)
+    layout-word low = tableWord-layout (tableAt l at) i (word l (at + i)) low ∙ ap (λ (q : CubeLayout). word (layoutWords q) i) (tableAt-layout l at) ∙ layout-same l at i low
+
+    slot-same : (k j : ℕ) → k < slotCount → j < slotSize → tableWord (tableAt l at) (layoutSize + slotSize * k + j) (word l (at + (layoutSize + slotSize * k + j))) ≡ word l (at + (layoutSize + slotSize * k + j))
+    slot-same k j hk hj =
+        slot-word (tableAt l at) k j (word l (at + (layoutSize + slotSize * k + j))) hj
+        ∙ ap (λ (g : Region). word (regionWords g (word l (at + (layoutSize + slotSize * k + j)))) j) (tableAt-slot l at k hk)
+        ∙ subst (λ (p : ℕ). word (regionWords (regionAt l (at + layoutSize + slotSize * k)) (word l p)) j ≡ word l p) (omega arith) (region-same l (at + layoutSize + slotSize * k) j hj)
+
+pub encoded : (l : List ℕ) (at : ℕ) → withTable (tableAt l at) at l ≡ l
+encoded l at =
+    ext-getD 0 (withTable (tableAt l at) at l) l (table-length (tableAt l at) at l)
+    (λ p h. elim (decLe at p) [
+      | yes low ↦ elim (decLe (at + tableSize) p) [
+        | yes past ↦ table-out (tableAt l at) at l p (λ a b. let z : ⊥ = omega arith in z)
+        | no f ↦
+            let i = p - at in
+            let cut : at + i ≡ p = omega arith in
+            subst (λ (x : ℕ). word (withTable (tableAt l at) at l) x ≡ word l x) cut (table-in (tableAt l at) at l i (omega arith) (omega (arith, h, table-length (tableAt l at) at l)) ∙ word-same l at i (omega arith))
+      ]
+      | no f ↦ table-out (tableAt l at) at l p (λ a b. let z : ⊥ = omega arith in z)
+    ])
+
+-- ---- one slot changed
+pub slot-other : (t : RegionTable) (n : ℕ) (r : Region) (i old : ℕ) → Outside (layoutSize + slotSize * n) slotSize i
+    → tableWord (record { layout = t .layout; slots = set (t .slots) n r }) i old ≡ tableWord t i old
+unfolding tableWord
+slot-other t n r i old out =
+    elim (decLe layoutSize i) [
+      | yes past ↦
+          let other : (i - layoutSize) / slotSize ≡ n → ⊥ = λ s. out (omega arith) (omega arith) in
+          ap (λ (g : Region). cond (ltb i layoutSize) (word (layoutWords (t .layout)) i) (word (regionWords g old) ((i - layoutSize) % slotSize))) (getD-set-other (t .slots) n ((i - layoutSize) / slotSize) r noRegion other)
+      | no f ↦ rw (lt-ltb i layoutSize (omega arith))
+    ]

@@ -10,10 +10,10 @@ use Rattle.refusal.specs.Codes.{answerCode, faultIndex}
 use Rattle.quantize.specs.declared.Quantized.{Quantized}
 use Rattle.quantize.specs.declared.Quantized.the-variants.{Value, Refused as NotConverted}
 
--- the number returned and the place stored are an answer's
-pub record Answered (answer : Answer) (code place : ℕ) : Type 0 where
+-- the number returned and the index at fault stored are an answer's
+pub record Answered (answer : Answer) (code fault : ℕ) : Type 0 where
   pub coded : code ≡ answerCode answer
-  pub placed : place ≡ faultIndex answer
+  pub indexed : fault ≡ faultIndex answer
 
 -- a quantity's answer: accepted where there is one
 abbrev pub quantityAnswer : Quantity → Answer
@@ -25,9 +25,9 @@ abbrev pub quantityOver : Quantity → ℕ → ℕ
 quantityOver (Is n) before = n
 quantityOver (NotGiven r at) before = before
 
--- the number returned, the value stored and the place stored are a quantity's
-pub record Valued (quantity : Quantity) (before code value place : ℕ) : Type 0 where
-  pub answered : Answered (quantityAnswer quantity) code place
+-- the number returned, the value stored and the index at fault stored are a quantity's
+pub record Valued (quantity : Quantity) (before code value fault : ℕ) : Type 0 where
+  pub answered : Answered (quantityAnswer quantity) code fault
   pub valued : value ≡ quantityOver quantity before
 
 -- a conversion's answer: accepted where there is a value
@@ -40,7 +40,7 @@ abbrev pub convertedOver : Quantized → ℤ → ℤ
 convertedOver (Value z) before = z
 convertedOver (NotConverted r at) before = before
 
--- the number returned, the value stored and the place stored are a conversion's
-pub record Converted (converted : Quantized) (before : ℤ) (code : ℕ) (value : ℤ) (place : ℕ) : Type 0 where
-  pub answered : Answered (convertedAnswer converted) code place
+-- the number returned, the value stored and the index at fault stored are a conversion's
+pub record Converted (converted : Quantized) (before : ℤ) (code : ℕ) (value : ℤ) (fault : ℕ) : Type 0 where
+  pub answered : Answered (convertedAnswer converted) code fault
   pub valued : value ≡ convertedOver converted before

@@ -32,19 +32,19 @@ unfoldable pub tableWord : Table → ℕ
 tableWord X = 0
 tableWord Y = 1
 
-unfoldable pub xWords : LutSettings → List ℤ
+abbrev pub xWords : LutSettings → List ℤ
 xWords s = modeNumber (s .x .mode) ∷ s .x .start ∷ s .x .end ∷ []
 
-unfoldable pub yWords : LutSettings → List ℤ
+abbrev pub yWords : LutSettings → List ℤ
 yWords s = s .y .select ∷ s .y .start ∷ s .y .end ∷ []
 
-unfoldable pub scaleWords : LutSettings → List ℤ
+abbrev pub scaleWords : LutSettings → List ℤ
 scaleWords s = s .x .below .scale ∷ s .x .above .scale ∷ s .y .below .scale ∷ s .y .above .scale ∷ []
 
-unfoldable pub shiftWords : LutSettings → List ℤ
+abbrev pub shiftWords : LutSettings → List ℤ
 shiftWords s = s .x .below .shift ∷ s .x .above .shift ∷ s .y .below .shift ∷ s .y .above .shift ∷ []
 
-unfoldable pub priorityWords : LutSettings → List ℕ
+abbrev pub priorityWords : LutSettings → List ℕ
 priorityWords s = tableWord (s .priority) ∷ tableWord (s .overflow) ∷ tableWord (s .underflow) ∷ []
 
 -- ---- what the call gives

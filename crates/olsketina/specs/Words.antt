@@ -1,5 +1,5 @@
 -- Settings as arrays of words (include/olsketina.h). Assumes nothing.
-use Prim.Native.Nat.{ℕ}
+use Prim.Native.Nat.{ℕ, _+_}
 use mathlib.Core.List.{List}
 use lib.ListN.{getD}
 use Rattle.layout.specs.declared.CubeLayout.{CubeLayout}
@@ -12,20 +12,23 @@ use Rattle.pixels.specs.declared.PixelSetting.{PixelSetting}
 abbrev pub word : List ℕ → ℕ → ℕ
 word l i = getD l i 0
 
--- width, height, channels, precision, line stride, surface stride, start
-unfoldable pub layoutFrom : List ℕ → CubeLayout
-layoutFrom l = layoutOf (word l 0) (word l 1) (word l 2) (word l 3) (word l 4) (word l 5) (word l 6)
+-- width, height, channels, precision, line stride, surface stride, start, from word `at` on
+abbrev pub layoutAt : List ℕ → ℕ → CubeLayout
+layoutAt l at = layoutOf (word l at) (word l (at + 1)) (word l (at + 2)) (word l (at + 3)) (word l (at + 4)) (word l (at + 5)) (word l (at + 6))
+
+abbrev pub layoutFrom : List ℕ → CubeLayout
+layoutFrom l = layoutAt l 0
 
 -- first channel, row and column, then how many of each
-unfoldable pub boxFrom : List ℕ → ElementBox
+abbrev pub boxFrom : List ℕ → ElementBox
 boxFrom l = record { channel = word l 0; row = word l 1; column = word l 2; channels = word l 3; rows = word l 4; columns = word l 5 }
 
 -- kernels, channels, rows, columns, precision
-unfoldable pub weightsFrom : List ℕ → WeightLayout
+abbrev pub weightsFrom : List ℕ → WeightLayout
 weightsFrom l = record { kernels = word l 0; channels = word l 1; rows = word l 2; columns = word l 3; precision = word l 4 }
 
 -- format code, width, height, channels, precision, X offset, start, line stride
-unfoldable pub imageFrom : List ℕ → PixelSetting
+abbrev pub imageFrom : List ℕ → PixelSetting
 imageFrom l =
     record {
       format = word l 0;

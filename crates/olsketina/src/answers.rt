@@ -5,43 +5,43 @@ use quantize::Quantized;
 use refusal::Answer;
 use refusal::Quantity;
 
-// The number of an answer; its place is stored.
-pub(crate) fn give(answer: Answer, place: &mut usize) -> u32
-    ensures { λ r. ⌜ Answered answer r (now (place .exit)) ⌝ }
+// The number of an answer; its index at fault is stored.
+pub(crate) fn give(answer: Answer, fault: &mut usize) -> u32
+    ensures { λ r. ⌜ Answered answer r (now (fault .exit)) ⌝ }
 {
-    *place = refusal::fault_index(answer);
+    *fault = refusal::fault_index(answer);
     refusal::answer_code(answer)
 }
 
-// The number of a quantity's answer; its place is stored, and the quantity where there is one.
-pub(crate) fn give_quantity(quantity: Quantity, value: &mut u64, place: &mut usize) -> u32
-    ensures { λ r. ⌜ Valued quantity (now (value .entry)) r (now (value .exit)) (now (place .exit)) ⌝ }
+// The number of a quantity's answer; its index at fault is stored, and the quantity where there is one.
+pub(crate) fn give_quantity(quantity: Quantity, value: &mut u64, fault: &mut usize) -> u32
+    ensures { λ r. ⌜ Valued quantity (now (value .entry)) r (now (value .exit)) (now (fault .exit)) ⌝ }
 {
     match quantity {
         Quantity::Is(n) => {
             *value = n;
-            *place = 0;
+            *fault = 0;
             0
         }
         Quantity::Refused(refusal, at) => {
-            *place = at;
+            *fault = at;
             refusal::code(refusal)
         }
     }
 }
 
-// The number of a conversion's answer; its place is stored, and the value where there is one.
-pub(crate) fn give_converted(converted: Quantized, value: &mut i16, place: &mut usize) -> u32
-    ensures { λ r. ⌜ Converted converted (now (value .entry)) r (now (value .exit)) (now (place .exit)) ⌝ }
+// The number of a conversion's answer; its index at fault is stored, and the value where there is one.
+pub(crate) fn give_converted(converted: Quantized, value: &mut i16, fault: &mut usize) -> u32
+    ensures { λ r. ⌜ Converted converted (now (value .entry)) r (now (value .exit)) (now (fault .exit)) ⌝ }
 {
     match converted {
         Quantized::Value(n) => {
             *value = n;
-            *place = 0;
+            *fault = 0;
             0
         }
         Quantized::Refused(refusal, at) => {
-            *place = at;
+            *fault = at;
             refusal::code(refusal)
         }
     }

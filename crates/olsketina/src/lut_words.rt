@@ -4,6 +4,10 @@ ghost use Prim.Native.Nat.{_<_};
 ghost use Rattle.refusal.specs.Checks.{leaves};
 ghost use Rattle.olsketina.specs.Lookups.{tableNamed, slopeAt, settingsFrom, countersFrom, counterWords};
 ghost use Rattle.olsketina.specs.Ready.{modeNumber, tableWord, xWords, yWords, scaleWords, shiftWords, priorityWords};
+use crate::words::COUNTERS;
+use crate::words::PRIORITIES;
+use crate::words::SETTINGS_WORDS;
+use crate::words::SLOPES;
 use lut::Counters;
 use lut::LutSettings;
 use lut::Slope;
@@ -13,15 +17,15 @@ use lut::XSettings;
 use lut::YSettings;
 use refusal::Answer;
 
-// The table that a word names: 0 is X, any other Y.
-fn table_named(word: u32) -> Table
-    ensures { λ r. ⌜ r ≡ tableNamed word ⌝ }
+// The table that a priority bit names.
+fn table_named(y: bool) -> Table
+    ensures { λ r. ⌜ r ≡ tableNamed y ⌝ }
 {
-    if word == 0 { Table::X } else { Table::Y }
+    if y { Table::Y } else { Table::X }
 }
 
 // The slope at an index.
-fn slope_at(scales: &[i16; 4], shifts: &[i32; 4], i: usize) -> Slope
+fn slope_at(scales: &[i16; SLOPES], shifts: &[i32; SLOPES], i: usize) -> Slope
     requires { ⌜ i < 4 ⌝ }
     ensures { λ r. ⌜ r ≡ slopeAt (now (scales .entry)) (now (shifts .entry)) i ⌝ }
 {
@@ -34,13 +38,15 @@ fn slope_at(scales: &[i16; 4], shifts: &[i32; 4], i: usize) -> Slope
 // The settings of both tables, with X in a mode.
 pub(crate) fn settings_of(
     mode: XMode,
-    x: &[i32; 3],
-    y: &[i32; 3],
-    scales: &[i16; 4],
-    shifts: &[i32; 4],
-    priorities: &[u32; 3],
+    x: &[i32; SETTINGS_WORDS],
+    y: &[i32; SETTINGS_WORDS],
+    scales: &[i16; SLOPES],
+    shifts: &[i32; SLOPES],
+    priority: bool,
+    overflow: bool,
+    underflow: bool,
 ) -> LutSettings
-    ensures { λ r. ⌜ r ≡ settingsFrom mode (now (x .entry)) (now (y .entry)) (now (scales .entry)) (now (shifts .entry)) (now (priorities .entry)) ⌝ }
+    ensures { λ r. ⌜ r ≡ settingsFrom mode (now (x .entry)) (now (y .entry)) (now (scales .entry)) (now (shifts .entry)) priority overflow underflow ⌝ }
 {
     let x_settings = XSettings {
         mode: mode,
@@ -59,14 +65,14 @@ pub(crate) fn settings_of(
     LutSettings {
         x: x_settings,
         y: y_settings,
-        priority: table_named(priorities[0]),
-        overflow: table_named(priorities[1]),
-        underflow: table_named(priorities[2]),
+        priority: table_named(priority),
+        overflow: table_named(overflow),
+        underflow: table_named(underflow),
     }
 }
 
 // The counters.
-pub(crate) fn counters_of(words: &[u32; 5]) -> Counters
+pub(crate) fn counters_of(words: &[u32; COUNTERS]) -> Counters
     ensures { λ r. ⌜ r ≡ countersFrom (now (words .entry)) ⌝ }
 {
     Counters {
@@ -78,8 +84,8 @@ pub(crate) fn counters_of(words: &[u32; 5]) -> Counters
     }
 }
 
-// Stores the counters where a run was accepted.
-pub(crate) fn keep_counters(words: &mut [u32; 5], answer: Answer, counters: Counters)
+// Writes the counters where a run was accepted.
+pub(crate) fn keep_counters(words: &mut [u32; COUNTERS], answer: Answer, counters: Counters)
     ensures { λ _. ⌜ now (words .exit) ≡ leaves answer (counterWords counters) (now (words .entry)) ⌝ }
 {
     if let Answer::Accepted = answer {
@@ -114,7 +120,7 @@ fn table_word(table: Table) -> u32
 }
 
 // The X table's number, start and end.
-pub(crate) fn x_words(s: LutSettings) -> [i32; 3]
+pub(crate) fn x_words(s: LutSettings) -> [i32; SETTINGS_WORDS]
     ensures { λ r. ⌜ r ≡ xWords s ⌝ }
 {
     let x = s.x;
@@ -123,14 +129,14 @@ pub(crate) fn x_words(s: LutSettings) -> [i32; 3]
 }
 
 // The Y table's select, start and end.
-pub(crate) fn y_words(s: LutSettings) -> [i32; 3]
+pub(crate) fn y_words(s: LutSettings) -> [i32; SETTINGS_WORDS]
     ensures { λ r. ⌜ r ≡ yWords s ⌝ }
 {
     [s.y.select, s.y.start, s.y.end]
 }
 
 // The scales of the four slopes.
-pub(crate) fn scale_words(s: LutSettings) -> [i16; 4]
+pub(crate) fn scale_words(s: LutSettings) -> [i16; SLOPES]
     ensures { λ r. ⌜ r ≡ scaleWords s ⌝ }
 {
     [
@@ -142,7 +148,7 @@ pub(crate) fn scale_words(s: LutSettings) -> [i16; 4]
 }
 
 // The shifts of the four slopes.
-pub(crate) fn shift_words(s: LutSettings) -> [i32; 4]
+pub(crate) fn shift_words(s: LutSettings) -> [i32; SLOPES]
     ensures { λ r. ⌜ r ≡ shiftWords s ⌝ }
 {
     [
@@ -154,7 +160,7 @@ pub(crate) fn shift_words(s: LutSettings) -> [i32; 4]
 }
 
 // Which table answers.
-pub(crate) fn priority_words(s: LutSettings) -> [u32; 3]
+pub(crate) fn priority_words(s: LutSettings) -> [u32; PRIORITIES]
     ensures { λ r. ⌜ r ≡ priorityWords s ⌝ }
 {
     let priority = s.priority;

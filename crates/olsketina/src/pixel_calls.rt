@@ -6,29 +6,30 @@ ghost use Rattle.olsketina.specs.Answers.{Answered, Valued, Converted};
 ghost use Rattle.olsketina.specs.Words.{imageFrom};
 use crate::answers;
 use crate::words;
+use crate::words::IMAGE_WORDS;
 
 // pixels::setting
 #[no_mangle]
-pub extern "C" fn olsketina_pixels_setting(image: &[u32; 8], place: &mut usize) -> u32
-    ensures { λ r. ⌜ Answered (settingAnswer (imageFrom (now (image .entry)))) r (now (place .exit)) ⌝ }
+pub extern "C" fn olsketina_pixels_setting(image: &[u32; IMAGE_WORDS], fault: &mut usize) -> u32
+    ensures { λ r. ⌜ Answered (settingAnswer (imageFrom (now (image .entry)))) r (now (fault .exit)) ⌝ }
 {
     let checked = pixels::setting(words::image_of(image));
-    answers::give(checked, place)
+    answers::give(checked, fault)
 }
 
 // pixels::position
 #[no_mangle]
 pub extern "C" fn olsketina_pixels_position(
-    image: &[u32; 8],
+    image: &[u32; IMAGE_WORDS],
     x: u32,
     y: u32,
     value: &mut u64,
-    place: &mut usize,
+    fault: &mut usize,
 ) -> u32
-    ensures { λ r. ⌜ Valued (positionQuantity (imageFrom (now (image .entry))) x y) (now (value .entry)) r (now (value .exit)) (now (place .exit)) ⌝ }
+    ensures { λ r. ⌜ Valued (positionQuantity (imageFrom (now (image .entry))) x y) (now (value .entry)) r (now (value .exit)) (now (fault .exit)) ⌝ }
 {
     let position = pixels::position(words::image_of(image), x, y);
-    answers::give_quantity(position, value, place)
+    answers::give_quantity(position, value, fault)
 }
 
 // quantize::convert
@@ -40,10 +41,10 @@ pub extern "C" fn olsketina_quantize_convert(
     shift: u32,
     precision: u32,
     value: &mut i16,
-    place: &mut usize,
+    fault: &mut usize,
 ) -> u32
-    ensures { λ r. ⌜ Converted (quantizeAnswer d offset scale shift precision) (now (value .entry)) r (now (value .exit)) (now (place .exit)) ⌝ }
+    ensures { λ r. ⌜ Converted (quantizeAnswer d offset scale shift precision) (now (value .entry)) r (now (value .exit)) (now (fault .exit)) ⌝ }
 {
     let converted = quantize::convert(d, offset, scale, shift, precision);
-    answers::give_converted(converted, value, place)
+    answers::give_converted(converted, value, fault)
 }

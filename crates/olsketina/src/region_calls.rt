@@ -10,29 +10,35 @@ ghost use Rattle.olsketina.specs.Tables.{tableAt, withTable};
 use crate::answers;
 use crate::tables;
 use crate::words;
+use crate::words::BOX_WORDS;
+use crate::words::LAYOUT_WORDS;
+use crate::words::TABLE_WORDS;
 use regions::Rectangle;
 
 // regions::empty
 #[no_mangle]
-pub extern "C" fn olsketina_regions_empty(layout: &[u32; 7], table: &mut [u32; 87])
+pub extern "C" fn olsketina_regions_empty(
+    layout: &[u32; LAYOUT_WORDS],
+    table: &mut [u32; TABLE_WORDS],
+)
     ensures { λ _. ⌜ now (table .exit) ≡ withTable (emptyTable (layoutFrom (now (layout .entry)))) 0 (now (table .entry)) ⌝ }
 {
-    let t = regions::empty(words::layout_of(layout));
+    let t = regions::empty(words::layout_at(layout, 0));
     tables::put_table(table, 0, t);
 }
 
 // regions::place
 #[no_mangle]
 pub extern "C" fn olsketina_regions_place(
-    table: &mut [u32; 87],
+    table: &mut [u32; TABLE_WORDS],
     slot: u32,
     column: u32,
     row: u32,
     columns: u32,
     rows: u32,
-    place: &mut usize,
+    fault: &mut usize,
 ) -> u32
-    ensures answered { λ r. ⌜ Answered (placeAnswer (tableAt (now (table .entry)) 0) slot (rectangle column row columns rows)) r (now (place .exit)) ⌝ }
+    ensures answered { λ r. ⌜ Answered (placeAnswer (tableAt (now (table .entry)) 0) slot (rectangle column row columns rows)) r (now (fault .exit)) ⌝ }
     ensures left { λ r. ⌜ now (table .exit) ≡ leaves (placeAnswer (tableAt (now (table .entry)) 0) slot (rectangle column row columns rows)) (withTable (placeTable (tableAt (now (table .entry)) 0) slot (rectangle column row columns rows)) 0 (now (table .entry))) (now (table .entry)) ⌝ }
 {
     let before = tables::table_at(table, 0);
@@ -46,61 +52,61 @@ pub extern "C" fn olsketina_regions_place(
     let answer = o.answer;
     let after = o.table;
     tables::keep_table(table, answer, after);
-    answers::give(answer, place)
+    answers::give(answer, fault)
 }
 
 // regions::edit
 #[no_mangle]
 pub extern "C" fn olsketina_regions_edit(
-    table: &[u32; 87],
+    table: &[u32; TABLE_WORDS],
     slot: u32,
-    b: &[u32; 6],
+    b: &[u32; BOX_WORDS],
     elements: &[i16],
     buffer: &mut [u8],
-    place: &mut usize,
+    fault: &mut usize,
 ) -> u32
-    ensures answered { λ r. ⌜ Answered (editAnswer (tableAt (now (table .entry)) 0) slot (boxFrom (now (b .entry))) (now (elements .entry)) (length (now (buffer .entry)))) r (now (place .exit)) ⌝ }
+    ensures answered { λ r. ⌜ Answered (editAnswer (tableAt (now (table .entry)) 0) slot (boxFrom (now (b .entry))) (now (elements .entry)) (length (now (buffer .entry)))) r (now (fault .exit)) ⌝ }
     ensures left { λ r. ⌜ now (buffer .exit) ≡ editBuffer (tableAt (now (table .entry)) 0) slot (boxFrom (now (b .entry))) (now (elements .entry)) (now (buffer .entry)) ⌝ }
 {
     let t = tables::table_at(table, 0);
     let o = regions::edit(t, slot, words::box_of(b), elements, buffer);
     let answer = o.answer;
-    answers::give(answer, place)
+    answers::give(answer, fault)
 }
 
 // regions::read
 #[no_mangle]
 pub extern "C" fn olsketina_regions_read(
-    table: &[u32; 87],
+    table: &[u32; TABLE_WORDS],
     slot: u32,
-    b: &[u32; 6],
+    b: &[u32; BOX_WORDS],
     buffer: &[u8],
     elements: &mut [i16],
-    place: &mut usize,
+    fault: &mut usize,
 ) -> u32
-    ensures answered { λ r. ⌜ Answered (readAnswer (tableAt (now (table .entry)) 0) slot (boxFrom (now (b .entry))) (length (now (elements .entry))) (length (now (buffer .entry)))) r (now (place .exit)) ⌝ }
+    ensures answered { λ r. ⌜ Answered (readAnswer (tableAt (now (table .entry)) 0) slot (boxFrom (now (b .entry))) (length (now (elements .entry))) (length (now (buffer .entry)))) r (now (fault .exit)) ⌝ }
     ensures left { λ r. ⌜ now (elements .exit) ≡ readElements (tableAt (now (table .entry)) 0) slot (boxFrom (now (b .entry))) (now (buffer .entry)) (now (elements .entry)) ⌝ }
 {
     let t = tables::table_at(table, 0);
     let o = regions::read(t, slot, words::box_of(b), buffer, elements);
     let answer = o.answer;
-    answers::give(answer, place)
+    answers::give(answer, fault)
 }
 
 // regions::position
 #[no_mangle]
 pub extern "C" fn olsketina_regions_position(
-    table: &[u32; 87],
+    table: &[u32; TABLE_WORDS],
     slot: u32,
     channel: u32,
     row: u32,
     column: u32,
     value: &mut u64,
-    place: &mut usize,
+    fault: &mut usize,
 ) -> u32
-    ensures { λ r. ⌜ Valued (regionPosition (tableAt (now (table .entry)) 0) slot channel row column) (now (value .entry)) r (now (value .exit)) (now (place .exit)) ⌝ }
+    ensures { λ r. ⌜ Valued (regionPosition (tableAt (now (table .entry)) 0) slot channel row column) (now (value .entry)) r (now (value .exit)) (now (fault .exit)) ⌝ }
 {
     let t = tables::table_at(table, 0);
     let n = regions::position(t, slot, channel, row, column);
-    answers::give_quantity(n, value, place)
+    answers::give_quantity(n, value, fault)
 }

@@ -1,23 +1,24 @@
-// A sheet's records, and its input fed in parts.
+// A sheet's input fed in parts, and the text that it prints.
 ghost use mathlib.Core.Path.{_≡_};
-ghost use Rattle.records.specs.Records.{recordOf};
+ghost use Prim.Native.Nat.{ℕ};
+ghost use lib.IntN.{pos};
+ghost use Rattle.lines.specs.Collecting.{written};
 ghost use Rattle.script.specs.Feed.{startSheet, fed, finished};
-ghost use Rattle.olsketina.specs.Sheets.{sheetFrom, withSheet, rowWords, recordWords};
+ghost use Rattle.script.specs.Output.{header, fieldsText};
+ghost use Rattle.olsketina.specs.Sheets.{sheetFrom, withSheet, rowWords};
 use crate::sheet_words;
+use crate::words::ROW_WORDS;
+use crate::words::STATE_WORDS;
+use crate::words::TEXT_BYTES;
+use lines::Line;
 use script::Fed;
-
-// records::read
-#[no_mangle]
-pub extern "C" fn olsketina_records_read(line: &[u8], words: &mut [u32; 8])
-    ensures { λ _. ⌜ now (words .exit) ≡ recordWords (recordOf (now (line .entry))) ⌝ }
-{
-    let item = records::read(line);
-    *words = sheet_words::record_words(item);
-}
 
 // script::begin
 #[no_mangle]
-pub extern "C" fn olsketina_script_begin(state: &mut [u32; 91], text: &mut [u8; 120])
+pub extern "C" fn olsketina_script_begin(
+    state: &mut [u32; STATE_WORDS],
+    text: &mut [u8; TEXT_BYTES],
+)
     ensures words { λ _. ⌜ now (state .exit) ≡ withSheet startSheet (now (state .entry)) ⌝ }
     ensures line { λ _. ⌜ now (text .exit) ≡ startSheet .lines .line .bytes ⌝ }
 {
@@ -29,8 +30,13 @@ pub extern "C" fn olsketina_script_begin(state: &mut [u32; 91], text: &mut [u8; 
     sheet_words::put_sheet(state, sheet);
 }
 
-// Stores what a call gave: the state, its text and the row.
-fn put_fed(given: Fed, state: &mut [u32; 91], text: &mut [u8; 120], row: &mut [u64; 5])
+// Writes what a call gave: the state, its text and the row.
+fn put_fed(
+    given: Fed,
+    state: &mut [u32; STATE_WORDS],
+    text: &mut [u8; TEXT_BYTES],
+    row: &mut [u64; ROW_WORDS],
+)
     ensures words { λ _. ⌜ now (state .exit) ≡ withSheet (given .sheet) (now (state .entry)) ⌝ }
     ensures line { λ _. ⌜ now (text .exit) ≡ given .sheet .lines .line .bytes ⌝ }
     ensures ended { λ _. ⌜ now (row .exit) ≡ rowWords (given .given) ⌝ }
@@ -48,10 +54,10 @@ fn put_fed(given: Fed, state: &mut [u32; 91], text: &mut [u8; 120], row: &mut [u
 // script::feed
 #[no_mangle]
 pub extern "C" fn olsketina_script_feed(
-    state: &mut [u32; 91],
-    text: &mut [u8; 120],
+    state: &mut [u32; STATE_WORDS],
+    text: &mut [u8; TEXT_BYTES],
     part: &[u8],
-    row: &mut [u64; 5],
+    row: &mut [u64; ROW_WORDS],
 ) -> usize
     ensures read { λ r. ⌜ r ≡ fed (sheetFrom (now (state .entry)) (now (text .entry))) (now (part .entry)) .read ⌝ }
     ensures words { λ r. ⌜ now (state .exit) ≡ withSheet (fed (sheetFrom (now (state .entry)) (now (text .entry))) (now (part .entry)) .sheet) (now (state .entry)) ⌝ }
@@ -67,9 +73,9 @@ pub extern "C" fn olsketina_script_feed(
 // script::finish
 #[no_mangle]
 pub extern "C" fn olsketina_script_finish(
-    state: &mut [u32; 91],
-    text: &mut [u8; 120],
-    row: &mut [u64; 5],
+    state: &mut [u32; STATE_WORDS],
+    text: &mut [u8; TEXT_BYTES],
+    row: &mut [u64; ROW_WORDS],
 )
     ensures words { λ _. ⌜ now (state .exit) ≡ withSheet (finished (sheetFrom (now (state .entry)) (now (text .entry))) .sheet) (now (state .entry)) ⌝ }
     ensures line { λ _. ⌜ now (text .exit) ≡ finished (sheetFrom (now (state .entry)) (now (text .entry))) .sheet .lines .line .bytes ⌝ }
@@ -78,4 +84,39 @@ pub extern "C" fn olsketina_script_finish(
     let before = sheet_words::sheet_of(state, text);
     let f = script::finish(before);
     put_fed(f, state, text, row);
+}
+
+// Writes a text; gives its length.
+fn put_text(line: Line, text: &mut [u8; TEXT_BYTES]) -> u32
+    ensures length { λ r. ⌜ r ≡ line .length ⌝ }
+    ensures bytes { λ r. ⌜ now (text .exit) ≡ line .bytes ⌝ }
+{
+    let written = line.bytes;
+    *text = written;
+    line.length
+}
+
+// script::header_text
+#[no_mangle]
+pub extern "C" fn olsketina_script_header_text(text: &mut [u8; TEXT_BYTES]) -> u32
+    ensures length { λ r. ⌜ r ≡ written header .length ⌝ }
+    ensures bytes { λ r. ⌜ now (text .exit) ≡ written header .bytes ⌝ }
+{
+    let line = script::header_text();
+    put_text(line, text)
+}
+
+// script::fields_text, of a value that is not negative
+#[no_mangle]
+pub extern "C" fn olsketina_script_row_text(
+    line: u64,
+    answer: u32,
+    value: u64,
+    text: &mut [u8; TEXT_BYTES],
+) -> u32
+    ensures length { λ r. ⌜ r ≡ written (fieldsText line answer (pos value)) .length ⌝ }
+    ensures bytes { λ r. ⌜ now (text .exit) ≡ written (fieldsText line answer (pos value)) .bytes ⌝ }
+{
+    let fields = script::fields_text(line, answer, false, value);
+    put_text(fields, text)
 }

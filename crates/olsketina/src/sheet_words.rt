@@ -1,11 +1,14 @@
-// A sheet's state, rows and records as words.
+// A sheet's state and rows as words.
 ghost use mathlib.Core.Path.{_≡_};
 ghost use Prim.Native.Nat.{_+_, _*_};
-ghost use Rattle.olsketina.specs.Sheets.{sheetFrom, withSheet, rowWords, recordWords};
+ghost use Rattle.olsketina.specs.Sheets.{sheetFrom, withSheet, rowWords};
 use crate::tables;
+use crate::words::ROW_WORDS;
+use crate::words::STATE_TABLE;
+use crate::words::STATE_WORDS;
+use crate::words::TEXT_BYTES;
 use lines::Line;
 use lines::Lines;
-use records::Record;
 use script::Given;
 use script::Sheet;
 
@@ -17,11 +20,11 @@ fn joined(low: u32, high: u32) -> u64
 }
 
 // The state that words and text say.
-pub(crate) fn sheet_of(words: &[u32; 91], text: &[u8; 120]) -> Sheet
+pub(crate) fn sheet_of(words: &[u32; STATE_WORDS], text: &[u8; TEXT_BYTES]) -> Sheet
     ensures { λ r. ⌜ r ≡ sheetFrom (now (words .entry)) (now (text .entry)) ⌝ }
 {
     let bytes = *text;
-    let table = tables::table_at(words, 4);
+    let table = tables::table_at(words, STATE_TABLE);
     let count = joined(words[0], words[1]);
     let line = Line {
         length: words[2],
@@ -38,8 +41,8 @@ pub(crate) fn sheet_of(words: &[u32; 91], text: &[u8; 120]) -> Sheet
     }
 }
 
-// Stores a state's words, without its text.
-pub(crate) fn put_sheet(words: &mut [u32; 91], sheet: Sheet)
+// Writes a state's words, without its text.
+pub(crate) fn put_sheet(words: &mut [u32; STATE_WORDS], sheet: Sheet)
     ensures { λ _. ⌜ now (words .exit) ≡ withSheet sheet (now (words .entry)) ⌝ }
 {
     let lines = sheet.lines;
@@ -50,15 +53,15 @@ pub(crate) fn put_sheet(words: &mut [u32; 91], sheet: Sheet)
     words[1] = (lines.count / 4294967296) as u32;
     words[2] = line.length;
     words[3] = tables::flag_word(sheet.framed, old);
-    tables::put_table(words, 4, table);
+    tables::put_table(words, STATE_TABLE, table);
 }
 
-// The row of a line that ended: 1, its number, answer, place and value; all 0 where none ended.
-pub(crate) fn row_words(given: Given) -> [u64; 5]
+// The row of a line that ended: 1, its number, answer, index at fault and value; all 0 where none ended.
+pub(crate) fn row_words(given: Given) -> [u64; ROW_WORDS]
     ensures { λ r. ⌜ r ≡ rowWords given ⌝ }
 {
     match given {
-        Given::Nothing => [0u64; 5],
+        Given::Nothing => [0u64; ROW_WORDS],
         Given::Line(row) => {
             let answer = row.answer;
             [
@@ -69,26 +72,5 @@ pub(crate) fn row_words(given: Given) -> [u64; 5]
                 row.value,
             ]
         }
-    }
-}
-
-// A record: its kind, then its numbers, the rest 0.
-pub(crate) fn record_words(item: Record) -> [u32; 8]
-    ensures { λ r. ⌜ r ≡ recordWords item ⌝ }
-{
-    match item {
-        Record::Unreadable => [0u32; 8],
-        Record::Frame(q) => [
-            1,
-            q.width,
-            q.height,
-            q.channels,
-            q.precision,
-            q.line,
-            q.surface,
-            q.start,
-        ],
-        Record::Stall(slot, w0, h0, w, h) => [2, slot, w0, h0, w, h, 0, 0],
-        Record::Cell(slot, c, h, w) => [3, slot, c, h, w, 0, 0, 0],
     }
 }

@@ -1,34 +1,24 @@
-// The region table as words: a layout's seven, then five for each slot.
+// The region table as words: a layout's, then those of each slot.
 ghost use mathlib.Core.Path.{_≡_};
-ghost use Prim.Native.Nat.{_+_, _≤_};
+ghost use Prim.Native.Nat.{_+_, _*_, _<_, _≤_};
 ghost use lib.ListN.{length};
 ghost use Rattle.refusal.specs.Checks.{leaves};
-ghost use Rattle.olsketina.specs.Tables.{layoutAt, regionAt, slotsAt, tableAt, flagWord, withLayout, withRegion, withRegions, withTable};
+ghost use Rattle.olsketina.specs.Sizes.{slotSize, slotCount, tableSize};
+ghost use Rattle.olsketina.specs.Tables.{regionAt, slotsAt, tableAt, flagWord, layoutWords, regionWords, tableWord, withTable};
+use crate::words;
+use crate::words::LAYOUT_WORDS;
+use crate::words::SLOT_WORDS;
+use crate::words::SLOTS;
+use crate::words::TABLE_WORDS;
 use layout::CubeLayout;
 use refusal::Answer;
 use regions::Rectangle;
 use regions::Region;
 use regions::RegionTable;
 
-// A layout's words from `at` on.
-fn layout_at(words: &[u32], at: usize) -> CubeLayout
-    requires { ⌜ at + 7 ≤ length (now words) ⌝ }
-    ensures { λ r. ⌜ r ≡ layoutAt (now (words .entry)) at ⌝ }
-{
-    CubeLayout {
-        width: words[at],
-        height: words[at + 1],
-        channels: words[at + 2],
-        precision: words[at + 3],
-        line: words[at + 4],
-        surface: words[at + 5],
-        start: words[at + 6],
-    }
-}
-
-// A slot's words from `at` on: any word but 0 is placed.
+// The slot whose words stand from `at` on: any word but 0 is placed.
 fn region_at(words: &[u32], at: usize) -> Region
-    requires { ⌜ at + 5 ≤ length (now words) ⌝ }
+    requires { ⌜ at + slotSize ≤ length (now words) ⌝ }
     ensures { λ r. ⌜ r ≡ regionAt (now (words .entry)) at ⌝ }
 {
     Region {
@@ -42,9 +32,9 @@ fn region_at(words: &[u32], at: usize) -> Region
     }
 }
 
-// The sixteen slots, their words from `at` on.
-fn slots_at(words: &[u32], at: usize) -> [Region; 16]
-    requires { ⌜ at + 80 ≤ length (now words) ⌝ }
+// The slots whose words stand from `at` on.
+fn slots_at(words: &[u32], at: usize) -> [Region; SLOTS]
+    requires { ⌜ at + slotSize * slotCount ≤ length (now words) ⌝ }
     ensures { λ r. ⌜ r ≡ slotsAt (now (words .entry)) at ⌝ }
 {
     let nowhere = Rectangle {
@@ -57,22 +47,22 @@ fn slots_at(words: &[u32], at: usize) -> [Region; 16]
         placed: false,
         rectangle: nowhere,
     };
-    let mut slots = [none; 16];
+    let mut slots = [none; SLOTS];
     let mut i: usize = 0;
-    while i < 16 {
-        slots[i] = region_at(words, at + 5 * i);
+    while i < SLOTS {
+        slots[i] = region_at(words, at + SLOT_WORDS * i);
         i += 1;
     }
     slots
 }
 
-// A table's words from `at` on.
+// The table whose words stand from `at` on.
 pub(crate) fn table_at(words: &[u32], at: usize) -> RegionTable
-    requires { ⌜ at + 87 ≤ length (now words) ⌝ }
+    requires { ⌜ at + tableSize ≤ length (now words) ⌝ }
     ensures { λ r. ⌜ r ≡ tableAt (now (words .entry)) at ⌝ }
 {
-    let layout = layout_at(words, at);
-    let slots = slots_at(words, at + 7);
+    let layout = words::layout_at(words, at);
+    let slots = slots_at(words, at + LAYOUT_WORDS);
     RegionTable {
         layout: layout,
         slots: slots,
@@ -89,58 +79,67 @@ pub(crate) fn flag_word(yes: bool, old: u32) -> u32
     if old == 0 { 1 } else { old }
 }
 
-// Stores a layout's words.
-fn put_layout(words: &mut [u32], at: usize, layout: CubeLayout)
-    requires { ⌜ at + 7 ≤ length (now words) ⌝ }
-    ensures { λ _. ⌜ now (words .exit) ≡ withLayout layout at (now (words .entry)) ⌝ }
+// A layout's words.
+fn layout_words(layout: CubeLayout) -> [u32; LAYOUT_WORDS]
+    ensures { λ r. ⌜ r ≡ layoutWords layout ⌝ }
 {
-    words[at] = layout.width;
-    words[at + 1] = layout.height;
-    words[at + 2] = layout.channels;
-    words[at + 3] = layout.precision;
-    words[at + 4] = layout.line;
-    words[at + 5] = layout.surface;
-    words[at + 6] = layout.start;
+    [
+        layout.width,
+        layout.height,
+        layout.channels,
+        layout.precision,
+        layout.line,
+        layout.surface,
+        layout.start,
+    ]
 }
 
-// Stores a slot's words.
-fn put_region(words: &mut [u32], at: usize, region: Region)
-    requires { ⌜ at + 5 ≤ length (now words) ⌝ }
-    ensures { λ _. ⌜ now (words .exit) ≡ withRegion region at (now (words .entry)) ⌝ }
+// A slot's words, the first over an old one.
+fn region_words(region: Region, old: u32) -> [u32; SLOT_WORDS]
+    ensures { λ r. ⌜ r ≡ regionWords region old ⌝ }
 {
-    let old = words[at];
-    words[at] = flag_word(region.placed, old);
-    words[at + 1] = region.rectangle.column;
-    words[at + 2] = region.rectangle.row;
-    words[at + 3] = region.rectangle.columns;
-    words[at + 4] = region.rectangle.rows;
+    let placed = flag_word(region.placed, old);
+    [
+        placed,
+        region.rectangle.column,
+        region.rectangle.row,
+        region.rectangle.columns,
+        region.rectangle.rows,
+    ]
 }
 
-// Stores the words of sixteen slots.
-fn put_slots(words: &mut [u32], at: usize, slots: [Region; 16])
-    requires { ⌜ at + 80 ≤ length (now words) ⌝ }
-    ensures { λ _. ⌜ now (words .exit) ≡ withRegions slots at 16 (now (words .entry)) ⌝ }
+// Word i of a table, over an old one.
+fn table_word(table: RegionTable, i: usize, old: u32) -> u32
+    requires { ⌜ i < tableSize ⌝ }
+    ensures { λ r. ⌜ r ≡ tableWord table i old ⌝ }
+{
+    if i < LAYOUT_WORDS {
+        let first = layout_words(table.layout);
+        return first[i];
+    }
+    let slots = table.slots;
+    let slot = (i - LAYOUT_WORDS) / SLOT_WORDS;
+    let region = slots[slot];
+    let later = region_words(region, old);
+    let j = (i - LAYOUT_WORDS) % SLOT_WORDS;
+    later[j]
+}
+
+// Writes a table's words from `at` on.
+pub(crate) fn put_table(words: &mut [u32], at: usize, table: RegionTable)
+    requires { ⌜ at + tableSize ≤ length (now words) ⌝ }
+    ensures { λ _. ⌜ now (words .exit) ≡ withTable table at (now (words .entry)) ⌝ }
 {
     let mut i: usize = 0;
-    while i < 16 {
-        let region = slots[i];
-        put_region(words, at + 5 * i, region);
+    while i < TABLE_WORDS {
+        let old = words[at + i];
+        words[at + i] = table_word(table, i, old);
         i += 1;
     }
 }
 
-// Stores a table's words.
-pub(crate) fn put_table(words: &mut [u32], at: usize, table: RegionTable)
-    requires { ⌜ at + 87 ≤ length (now words) ⌝ }
-    ensures { λ _. ⌜ now (words .exit) ≡ withTable table at (now (words .entry)) ⌝ }
-{
-    let slots = table.slots;
-    put_layout(words, at, table.layout);
-    put_slots(words, at + 7, slots);
-}
-
-// Stores a table's words where a call was accepted.
-pub(crate) fn keep_table(words: &mut [u32; 87], answer: Answer, table: RegionTable)
+// Writes a table's words where a call was accepted.
+pub(crate) fn keep_table(words: &mut [u32; TABLE_WORDS], answer: Answer, table: RegionTable)
     ensures { λ _. ⌜ now (words .exit) ≡ leaves answer (withTable table 0 (now (words .entry))) (now (words .entry)) ⌝ }
 {
     if let Answer::Accepted = answer {

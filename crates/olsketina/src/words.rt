@@ -1,28 +1,65 @@
-// Settings as words.
+// Settings as words: how many each has, and what they say.
 ghost use mathlib.Core.Path.{_≡_};
-ghost use Rattle.olsketina.specs.Words.{layoutFrom, boxFrom, weightsFrom, imageFrom};
+ghost use Prim.Native.Nat.{_+_, _≤_};
+ghost use lib.ListN.{length};
+ghost use Rattle.olsketina.specs.Sizes.{layoutSize};
+ghost use Rattle.olsketina.specs.Words.{layoutAt, boxFrom, weightsFrom, imageFrom};
 use layout::CubeLayout;
 use layout::ElementBox;
 use pixels::PixelSetting;
 use weights::WeightLayout;
 
-// A cube's layout.
-pub(crate) fn layout_of(words: &[u32; 7]) -> CubeLayout
-    ensures { λ r. ⌜ r ≡ layoutFrom (now (words .entry)) ⌝ }
+// The header's macros of the same names.
+pub(crate) const VERSION: u32 = 2;
+
+pub(crate) const LAYOUT_WORDS: usize = 7;
+
+pub(crate) const BOX_WORDS: usize = 6;
+
+pub(crate) const SLOT_WORDS: usize = 5;
+
+pub(crate) const SLOTS: usize = 16;
+
+pub(crate) const TABLE_WORDS: usize = LAYOUT_WORDS + SLOT_WORDS * SLOTS;
+
+pub(crate) const WEIGHTS_WORDS: usize = 5;
+
+pub(crate) const IMAGE_WORDS: usize = 8;
+
+pub(crate) const SETTINGS_WORDS: usize = 3;
+
+pub(crate) const SLOPES: usize = 4;
+
+pub(crate) const COUNTERS: usize = 5;
+
+pub(crate) const PRIORITIES: usize = 3;
+
+pub(crate) const STATE_TABLE: usize = 4;
+
+pub(crate) const STATE_WORDS: usize = STATE_TABLE + TABLE_WORDS;
+
+pub(crate) const TEXT_BYTES: usize = 120;
+
+pub(crate) const ROW_WORDS: usize = 5;
+
+// The layout whose words stand from `at` on.
+pub(crate) fn layout_at(words: &[u32], at: usize) -> CubeLayout
+    requires { ⌜ at + layoutSize ≤ length (now words) ⌝ }
+    ensures { λ r. ⌜ r ≡ layoutAt (now (words .entry)) at ⌝ }
 {
     CubeLayout {
-        width: words[0],
-        height: words[1],
-        channels: words[2],
-        precision: words[3],
-        line: words[4],
-        surface: words[5],
-        start: words[6],
+        width: words[at],
+        height: words[at + 1],
+        channels: words[at + 2],
+        precision: words[at + 3],
+        line: words[at + 4],
+        surface: words[at + 5],
+        start: words[at + 6],
     }
 }
 
 // A box of elements.
-pub(crate) fn box_of(words: &[u32; 6]) -> ElementBox
+pub(crate) fn box_of(words: &[u32; BOX_WORDS]) -> ElementBox
     ensures { λ r. ⌜ r ≡ boxFrom (now (words .entry)) ⌝ }
 {
     ElementBox {
@@ -36,7 +73,7 @@ pub(crate) fn box_of(words: &[u32; 6]) -> ElementBox
 }
 
 // A weight tensor's layout.
-pub(crate) fn weights_of(words: &[u32; 5]) -> WeightLayout
+pub(crate) fn weights_of(words: &[u32; WEIGHTS_WORDS]) -> WeightLayout
     ensures { λ r. ⌜ r ≡ weightsFrom (now (words .entry)) ⌝ }
 {
     WeightLayout {
@@ -49,7 +86,7 @@ pub(crate) fn weights_of(words: &[u32; 5]) -> WeightLayout
 }
 
 // A pixel image's setting.
-pub(crate) fn image_of(words: &[u32; 8]) -> PixelSetting
+pub(crate) fn image_of(words: &[u32; IMAGE_WORDS]) -> PixelSetting
     ensures { λ r. ⌜ r ≡ imageFrom (now (words .entry)) ⌝ }
 {
     PixelSetting {

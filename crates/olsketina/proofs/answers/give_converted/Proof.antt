@@ -15,10 +15,10 @@ code-requires : tie.Need-code-requires
 code-requires c κs = search needs
 
 returns : tie.Need-returns
-returns c = rw (c .before .converted .given .1) (record { answered = record { coded = refl; placed = refl }; valued = toZ-ofZ (sfits-of (c .known-told .given .0 .1)) })
+returns c = rw (c .before .converted .given .1) (record { answered = record { coded = refl; indexed = refl }; valued = toZ-ofZ (sfits-of (c .known-told .given .0 .1)) })
 
 returns-2 : tie.Need-returns-2
-returns-2 c = rw (c .before .before .converted2 .given .1) (record { answered = record { coded = c .code .ensures; placed = refl }; valued = refl })
+returns-2 c = rw (c .before .before .converted2 .given .1) (record { answered = record { coded = c .code .ensures; indexed = refl }; valued = refl })
 
 pub give-converted-spec : {M : Type 1} → statement M
 give-converted-spec =

@@ -17,7 +17,7 @@ returns : tie.Need-returns
 returns c = search needs
 
 returns-2 : tie.Need-returns-2
-returns-2 c = rw (c .before .before .quantity2 .given .1) (record { answered = record { coded = c .code .ensures; placed = refl }; valued = refl })
+returns-2 c = rw (c .before .before .quantity2 .given .1) (record { answered = record { coded = c .code .ensures; indexed = refl }; valued = refl })
 
 pub give-quantity-spec : {M : Type 1} → statement M
 give-quantity-spec =

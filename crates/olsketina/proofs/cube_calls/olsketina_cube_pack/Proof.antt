@@ -4,8 +4,8 @@ use borrow.Author.Needs.{needs}
 use Rattle.olsketina.proofs.cube_calls.olsketina_cube_pack.Statement.{statement}
 use Rattle.olsketina.proofs.cube_calls.olsketina_cube_pack.Tie as tie
 
-layout-of-requires : tie.Need-layout-of-requires
-layout-of-requires c κs = search needs
+layout-at-requires : tie.Need-layout-at-requires
+layout-at-requires c κs = search needs
 
 pack-requires : tie.Need-pack-requires
 pack-requires c κs = search needs
@@ -18,8 +18,8 @@ same-length c = search needs
 
 returns : tie.Need-returns
 returns c = let p = c .before .before .before .before in
-    rw (← p .before .before .layout-of .ensures) ((answered-by (p .pack .ensures .0) (c .give .ensures), p .pack .ensures .1))
+    rw (← p .before .before .layout-at .ensures) ((answered-by (p .pack .ensures .0) (c .give .ensures), p .pack .ensures .1))
 
 pub olsketina-cube-pack-spec : {M : Type 1} → statement M
 olsketina-cube-pack-spec =
-    tie.close (tie.spec layout-of-requires pack-requires give-requires same-length returns)
+    tie.close (tie.spec layout-at-requires pack-requires give-requires same-length returns)

@@ -4,8 +4,8 @@ use borrow.Author.Needs.{needs}
 use Rattle.olsketina.proofs.cube_calls.olsketina_cube_unpack.Statement.{statement}
 use Rattle.olsketina.proofs.cube_calls.olsketina_cube_unpack.Tie as tie
 
-layout-of-requires : tie.Need-layout-of-requires
-layout-of-requires c κs = search needs
+layout-at-requires : tie.Need-layout-at-requires
+layout-at-requires c κs = search needs
 
 unpack-requires : tie.Need-unpack-requires
 unpack-requires c κs = search needs
@@ -18,8 +18,8 @@ same-length c = search needs
 
 returns : tie.Need-returns
 returns c = let p = c .before .before .before in
-    rw (← p .before .before .layout-of .ensures) ((answered-by (p .unpack .ensures .0) (c .give .ensures), p .unpack .ensures .1))
+    rw (← p .before .before .layout-at .ensures) ((answered-by (p .unpack .ensures .0) (c .give .ensures), p .unpack .ensures .1))
 
 pub olsketina-cube-unpack-spec : {M : Type 1} → statement M
 olsketina-cube-unpack-spec =
-    tie.close (tie.spec layout-of-requires unpack-requires give-requires same-length returns)
+    tie.close (tie.spec layout-at-requires unpack-requires give-requires same-length returns)

@@ -4,8 +4,8 @@ use borrow.Author.Needs.{needs}
 use Rattle.olsketina.proofs.region_calls.olsketina_regions_empty.Statement.{statement}
 use Rattle.olsketina.proofs.region_calls.olsketina_regions_empty.Tie as tie
 
-layout-of-requires : tie.Need-layout-of-requires
-layout-of-requires c κs = search needs
+layout-at-requires : tie.Need-layout-at-requires
+layout-at-requires c κs = search needs
 
 empty-requires : tie.Need-empty-requires
 empty-requires c κs = search needs
@@ -14,8 +14,8 @@ put-table-requires : tie.Need-put-table-requires
 put-table-requires c κs = search needs
 
 returns : tie.Need-returns
-returns c = c .put-table .ensures ∙ rw (c .before .before .empty .ensures, c .before .before .before .layout-of .ensures)
+returns c = c .put-table .ensures ∙ rw (c .before .before .empty .ensures, c .before .before .before .layout-at .ensures)
 
 pub olsketina-regions-empty-spec : {M : Type 1} → statement M
 olsketina-regions-empty-spec =
-    tie.close (tie.spec layout-of-requires empty-requires put-table-requires returns)
+    tie.close (tie.spec layout-at-requires empty-requires put-table-requires returns)

@@ -1,7 +1,6 @@
 -- `olsketina::sheet_words::put_sheet` meets its contract: the four words, then the table's. Assumes nothing.
 use mathlib.Core.Path.{_∙_}
-use Rattle.olsketina.specs.Sheets.{progressWords, withSheet}
-use Rattle.olsketina.specs.Tables.{withWords}
+use Rattle.olsketina.specs.Sheets.{withProgress, withSheet}
 use borrow.Author.Needs.{needs}
 use Rattle.olsketina.proofs.sheet_words.put_sheet.Statement.{statement}
 use Rattle.olsketina.proofs.sheet_words.put_sheet.Tie as tie
@@ -34,7 +33,7 @@ put-table-requires : tie.Need-put-table-requires
 put-table-requires c κs = search needs
 
 returns : tie.Need-returns
-unfolding withSheet withWords progressWords
+unfolding withSheet withProgress
 returns c = c .put-table .ensures ∙ rw (c .before .before .flag-word .ensures)
 
 pub put-sheet-spec : {M : Type 1} → statement M

@@ -1,6 +1,5 @@
 -- `olsketina::sheet_words::sheet_of` meets its contract: each number is its word, and the table is that of the words behind. Assumes nothing.
 use Rattle.olsketina.specs.Sheets.{sheetFrom}
-use Rattle.olsketina.specs.Tables.{says}
 use borrow.Author.Needs.{needs}
 use Rattle.olsketina.proofs.sheet_words.sheet_of.Statement.{statement}
 use Rattle.olsketina.proofs.sheet_words.sheet_of.Tie as tie
@@ -24,7 +23,7 @@ element-copy-out-t15 : tie.Need-element-copy-out-t15
 element-copy-out-t15 c = search needs
 
 returns : tie.Need-returns
-unfolding sheetFrom says
+unfolding sheetFrom
 returns c = rw (c .before .before .joined .ensures, c .before .before .before .before .before .table-at .ensures)
 
 pub sheet-of-spec : {M : Type 1} → statement M

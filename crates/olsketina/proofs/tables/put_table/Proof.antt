@@ -1,28 +1,88 @@
--- `olsketina::tables::put_table` meets its contract: the layout's words, then the slots'. Assumes nothing.
-use Prim.Native.Nat.{_+_}
-use mathlib.Core.Path.{ap, _∙_}
-use Rattle.olsketina.specs.Tables.{withRegions, withTable}
-use borrow.Author.Needs.{needs}
+-- `olsketina::tables::put_table` meets its contract. The loop's invariant: the first i words are written. Assumes nothing.
+use Prim.Native.Nat.{ℕ, _+_, _-_, _≤_}
+use native.Mathlib.Omega.{arith}
+use mathlib.Core.Path.{_≡_, ap, _∙_}
+use lib.ListN.{length, set}
+use Rattle.olsketina.specs.Sizes.{tableSize}
+use Rattle.olsketina.specs.Steps.{withFirst}
+use Rattle.olsketina.proofs.TableLaws.{first-length, first-none, first-next, first-all}
 use Rattle.olsketina.proofs.tables.put_table.Statement.{statement}
 use Rattle.olsketina.proofs.tables.put_table.Tie as tie
 
-put-layout-requires : tie.Need-put-layout-requires
-put-layout-requires c κs = search needs
+abbrev Inv-loop : tie.InvT-loop
+Inv-loop words₀ at table i₀ words i = (i ≤ tableSize) × (words ≡ withFirst table at i words₀)
 
-add-put-slots : tie.Need-add-put-slots
-add-put-slots c = search needs
+abbrev μ-loop : tie.MeasureT-loop
+μ-loop words₀ at table i₀ words i = tableSize - i
 
-put-slots-requires : tie.Need-put-slots-requires
-put-slots-requires c κs = search needs
+-- the words have kept their number
+long : (c : tie.At-loop Inv-loop μ-loop) → length (c .loop .words) ≡ length (c .before .before .args .words .now)
+long c =
+    let a = c .before .before .args in
+    ap length (c .loop .inv .1) ∙ first-length (a .table) (a .at) (c .loop .i) (a .words .now)
 
-same-length : tie.Need-same-length
-same-length c = search needs
+loop-holds : tie.Need-loop-holds Inv-loop μ-loop
+loop-holds c = let a = c .before .args in (omega arith, first-none (a .table) (a .at) (a .words .now))
 
-returns : tie.Need-returns
-unfolding withTable
-returns c = let a = c .before .before .before .before .before .before .before .before .before .before .args in
-    c .before .before .put-slots .ensures ∙ ap (withRegions (a .table .slots) (a .at + 7) 16) (c .before .before .before .before .before .before .put-layout .ensures)
+add-old : tie.Need-add-old Inv-loop μ-loop
+add-old c = omega arith
+
+mul-old : tie.Need-mul-old Inv-loop μ-loop
+mul-old c = omega arith
+
+slice-read-old : tie.Need-slice-read-old Inv-loop μ-loop
+slice-read-old c = omega (arith, long (c .before .before))
+
+table-word-requires : tie.Need-table-word-requires Inv-loop μ-loop
+table-word-requires c κs = omega arith
+
+add-words : tie.Need-add-words Inv-loop μ-loop
+add-words c = omega arith
+
+mul-words : tie.Need-mul-words Inv-loop μ-loop
+mul-words c = omega arith
+
+slice-write-words : tie.Need-slice-write-words Inv-loop μ-loop
+slice-write-words c = omega (arith, long (c .before .before .before))
+
+add-i : tie.Need-add-i Inv-loop μ-loop
+add-i c = omega arith
+
+loop-less : tie.Need-loop-less Inv-loop μ-loop
+loop-less c = omega arith
+
+loop-again : tie.Need-loop-again Inv-loop μ-loop
+loop-again c =
+    let l = c .before .before .before in
+    let a = l .before .before .args in
+    (omega arith, first-next (a .table) (a .at) (l .loop .i) (a .words .now) (omega arith) (l .loop .inv .1) (ap (set (l .loop .words) (a .at + l .loop .i)) (c .table-word .ensures)))
+
+same-length : tie.Need-same-length Inv-loop μ-loop
+same-length c = long (c .before)
+
+returns : tie.Need-returns Inv-loop μ-loop
+returns c =
+    let l = c .before in
+    let a = l .before .before .args in
+    let all : l .loop .i ≡ tableSize = omega (arith, l .loop .inv .0) in
+    l .loop .inv .1 ∙ ap (λ (n : ℕ). withFirst (a .table) (a .at) n (a .words .now)) all ∙ first-all (a .table) (a .at) (a .words .now)
 
 pub put-table-spec : {M : Type 1} → statement M
 put-table-spec =
-    tie.close (tie.spec put-layout-requires add-put-slots put-slots-requires same-length returns)
+    tie.close
+    (tie.spec
+    Inv-loop
+    μ-loop
+    loop-holds
+    add-old
+    mul-old
+    slice-read-old
+    table-word-requires
+    add-words
+    mul-words
+    slice-write-words
+    add-i
+    loop-less
+    loop-again
+    same-length
+    returns)

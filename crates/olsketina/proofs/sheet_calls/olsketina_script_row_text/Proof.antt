@@ -1,0 +1,27 @@
+-- `olsketina::sheet_calls::olsketina_script_row_text` meets its contract: it hands on what `script::fields_text` gives, and a value without a minus is
+-- itself. Assumes nothing.
+use mathlib.Core.Path.{ap, _∙_}
+use lib.IntN.{ℤ}
+use Rattle.lines.specs.declared.Line.{Line}
+use Rattle.lines.specs.Collecting.{written}
+use Rattle.script.specs.Output.{fieldsText}
+use Rattle.script.proofs.OutputLaws.{plain-value}
+use borrow.Author.Needs.{needs}
+use Rattle.olsketina.proofs.sheet_calls.olsketina_script_row_text.Statement.{statement}
+use Rattle.olsketina.proofs.sheet_calls.olsketina_script_row_text.Tie as tie
+
+fields-text-requires : tie.Need-fields-text-requires
+fields-text-requires c κs = search needs
+
+put-text-requires : tie.Need-put-text-requires
+put-text-requires c κs = search needs
+
+returns : tie.Need-returns
+returns c = let f = c .before .before in
+    let a = f .before .args in
+    let e = f .fields-text .ensures ∙ ap (λ (z : ℤ). written (fieldsText (a .line) (a .answer) z)) (plain-value (a .value)) in
+    (c .put-text .ensures .0 ∙ ap (λ (l : Line). l .length) e, c .put-text .ensures .1 ∙ ap (λ (l : Line). l .bytes) e)
+
+pub olsketina-script-row-text-spec : {M : Type 1} → statement M
+olsketina-script-row-text-spec =
+    tie.close (tie.spec fields-text-requires put-text-requires returns)
