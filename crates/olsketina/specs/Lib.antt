@@ -5,4 +5,5 @@ pub mod Tables
 pub mod Lookups
 pub mod Ready
 pub mod Sheets
+pub mod Feeding
 pub mod Steps
