@@ -1,7 +1,7 @@
 -- A table as words: read so far, written so far; a table written is read back, and one written over its own words changes none. Assumes nothing.
 --     slots-next, slots-all                 the slots read so far
---     first-none, first-next, first-all     the words written so far
 --     table-length, table-in, table-out     the words after a table was written
+--     Written, written-none .. written-all  the words written so far
 --     tableWord-layout, tableWord-slot      word i of a table
 --     decoded                               a table written is read back
 --     encoded                               a table written over its own words
@@ -19,7 +19,6 @@ use lib.Dec.{leb, ltb}
 use lib.Seq.{getD-set-same, getD-set-other, ext-getD}
 use borrow.Author.Tests.{lt-ltb, le-ltb, le-leb, lt-leb}
 use Rattle.refusal.proofs.TestLaws.{and-both}
-use Rattle.elements.specs.Lists.{remade}
 use Rattle.elements.proofs.ListLaws.{length-remade, getD-remade}
 use Rattle.elements.proofs.TabulateLaws.{length-tabulate, getD-tabulate}
 use Rattle.layout.specs.declared.CubeLayout.{CubeLayout}
@@ -28,7 +27,6 @@ use Rattle.regions.specs.declared.RegionTable.{RegionTable}
 use Rattle.olsketina.specs.Sizes.{layoutSize, slotSize, slotCount, tableSize}
 use Rattle.olsketina.specs.Words.{word, layoutAt}
 use Rattle.olsketina.specs.Tables.{regionAt, slotsAt, tableAt, layoutWords, regionWords, noRegion, tableWord, withTable}
-use Rattle.olsketina.specs.Steps.{withFirst}
 use Rattle.olsketina.proofs.WordLaws.{says-flag, flagWord-says}
 
 -- ---- the slots read so far
@@ -52,14 +50,11 @@ slots-all l at slots long read =
     (λ i h. let low : i < slotCount = omega (arith, h, long) in
     read i low ∙ sym (getD-tabulate (λ (i : ℕ). regionAt l (at + slotSize * i)) slotCount i noRegion low))
 
--- ---- the words written so far
+-- ---- the words after a table was written
 
 -- p is none of n words from `at` on
 abbrev pub Outside : ℕ → ℕ → ℕ → Type 0
 Outside at n p = at ≤ p → p < at + n → ⊥
-
-among : (at n p : ℕ) → at ≤ p → p < at + n → (leb at p && ltb p (at + n)) ≡ true
-among at n p low high = and-both (le-leb at p low) (lt-ltb p (at + n) high)
 
 apart : (at n p : ℕ) → Outside at n p → (leb at p && ltb p (at + n)) ≡ false
 apart at n p out =
@@ -68,70 +63,57 @@ apart at n p out =
       | no f ↦ rw (lt-leb at p (omega arith))
     ]
 
-module _ (t : RegionTable) (at n : ℕ) (l : List ℕ) where
-  pub first-length : length (withFirst t at n l) ≡ length l
-  unfolding withFirst
-  first-length = length-remade (λ (p old : ℕ). cond (leb at p && ltb p (at + n)) (tableWord t (p - at) old) old) l
-
-  first-word : (p : ℕ) → p < length l → word (withFirst t at n l) p ≡ cond (leb at p && ltb p (at + n)) (tableWord t (p - at) (word l p)) (word l p)
-  unfolding withFirst
-  first-word p h = getD-remade (λ (p old : ℕ). cond (leb at p && ltb p (at + n)) (tableWord t (p - at) old) old) l p 0 h
-
-  pub first-in : (p : ℕ) → p < length l → at ≤ p → p < at + n → word (withFirst t at n l) p ≡ tableWord t (p - at) (word l p)
-  first-in p h low high = first-word p h ∙ rw (among at n p low high)
-
-  pub first-out : (p : ℕ) → Outside at n p → word (withFirst t at n l) p ≡ word l p
-  first-out p out =
-      elim (decLe (length l) p) [
-        | yes past ↦ List·getD-eq-default (withFirst t at n l) 0 (omega (arith, first-length)) ∙ sym (List·getD-eq-default l 0 past)
-        | no f ↦ first-word p (omega arith) ∙ rw (apart at n p out)
-      ]
-
-pub first-none : (t : RegionTable) (at : ℕ) (l : List ℕ) → l ≡ withFirst t at 0 l
-first-none t at l = ext-getD 0 l _ (sym (first-length t at 0 l)) (λ p h. sym (first-out t at 0 l p (λ a b. let z : ⊥ = omega arith in z)))
-
-pub first-next : (t : RegionTable) (at n : ℕ) (l : List ℕ) {m after : List ℕ} → at + n < length l → m ≡ withFirst t at n l → after ≡ set m (at + n) (tableWord t n (word m (at + n)))
-    → after ≡ withFirst t at (n + 1) l
-first-next t at n l {m} {after} room e f =
-    let long : length m ≡ length l = ap length e ∙ first-length t at n l in
-    let last : word m (at + n) ≡ word l (at + n) = ap (λ (x : List ℕ). word x (at + n)) e ∙ first-out t at n l (at + n) (λ a b. let z : ⊥ = omega arith in z) in
-    let here : tableWord t n (word m (at + n)) ≡ word (withFirst t at (n + 1) l) (at + n) =
-    ap (tableWord t n) last ∙ ap (λ (i : ℕ). tableWord t i (word l (at + n))) (omega arith) ∙ sym (first-in t at (n + 1) l (at + n) room (omega arith) (omega arith)) in
-    let there : (p : ℕ) → (p ≡ at + n → ⊥) → p < length l → word m p ≡ word (withFirst t at (n + 1) l) p =
-    λ p other h. ap (λ (x : List ℕ). word x p) e ∙ elim (decLe at p) [
-      | yes low ↦ elim (decLe (at + n) p) [
-        | yes past ↦ first-out t at n l p (λ a b. let z : ⊥ = omega arith in z) ∙ sym (first-out t at (n + 1) l p (λ a b. other (omega arith)))
-        | no g ↦ first-in t at n l p h low (omega arith) ∙ sym (first-in t at (n + 1) l p h low (omega arith))
-      ]
-      | no g ↦ first-out t at n l p (λ a b. let z : ⊥ = omega arith in z) ∙ sym (first-out t at (n + 1) l p (λ a b. let z : ⊥ = omega arith in z))
-    ] in
-    f ∙ ext-getD 0 (set m (at + n) (tableWord t n (word m (at + n)))) _ (length-set m (at + n) (tableWord t n (word m (at + n))) ∙ long ∙ sym (first-length t at (n + 1) l))
-    (λ p h. let within : p < length l = omega (arith, h, length-set m (at + n) (tableWord t n (word m (at + n))), long) in
-    elim (decLe (at + n) p) [
-      | yes low ↦ elim (decLe p (at + n)) [
-        | yes high ↦ let same : at + n ≡ p = omega arith in
-            subst (λ (k : ℕ). word (set m (at + n) (tableWord t n (word m (at + n)))) k ≡ word (withFirst t at (n + 1) l) k) same
-            (getD-set-same m (at + n) (tableWord t n (word m (at + n))) 0 (omega (arith, long)) ∙ here)
-        | no g ↦ getD-set-other m (at + n) p (tableWord t n (word m (at + n))) 0 (λ s. let z : ⊥ = omega arith in z) ∙ there p (λ s. let z : ⊥ = omega arith in z) within
-      ]
-      | no g ↦ getD-set-other m (at + n) p (tableWord t n (word m (at + n))) 0 (λ s. let z : ⊥ = omega arith in z) ∙ there p (λ s. let z : ⊥ = omega arith in z) within
-    ])
-
--- ---- a table written
 module _ (t : RegionTable) (at : ℕ) (l : List ℕ) where
-  pub first-all : withFirst t at tableSize l ≡ withTable t at l
-  unfolding withFirst withTable
-  first-all = refl
-
   pub table-length : length (withTable t at l) ≡ length l
-  table-length = ap length (sym first-all) ∙ first-length t at tableSize l
+  unfolding withTable
+  table-length = length-remade (λ (p old : ℕ). cond (leb at p && ltb p (at + tableSize)) (tableWord t (p - at) old) old) l
 
-  pub table-out : (p : ℕ) → Outside at tableSize p → word (withTable t at l) p ≡ word l p
-  table-out p out = ap (λ (x : List ℕ). word x p) (sym first-all) ∙ first-out t at tableSize l p out
+  table-word : (p : ℕ) → p < length l → word (withTable t at l) p ≡ cond (leb at p && ltb p (at + tableSize)) (tableWord t (p - at) (word l p)) (word l p)
+  unfolding withTable
+  table-word p h = getD-remade (λ (p old : ℕ). cond (leb at p && ltb p (at + tableSize)) (tableWord t (p - at) old) old) l p 0 h
 
   pub table-in : (i : ℕ) → i < tableSize → at + i < length l → word (withTable t at l) (at + i) ≡ tableWord t i (word l (at + i))
   table-in i h room =
-      ap (λ (x : List ℕ). word x (at + i)) (sym first-all) ∙ first-in t at tableSize l (at + i) room (omega arith) (omega arith) ∙ ap (λ (j : ℕ). tableWord t j (word l (at + i))) (omega arith)
+      let among : (leb at (at + i) && ltb (at + i) (at + tableSize)) ≡ true = and-both (le-leb at (at + i) (omega arith)) (lt-ltb (at + i) (at + tableSize) (omega arith)) in
+      table-word (at + i) room ∙ rw among (ap (λ (j : ℕ). tableWord t j (word l (at + i))) (omega arith))
+
+  pub table-out : (p : ℕ) → Outside at tableSize p → word (withTable t at l) p ≡ word l p
+  table-out p out =
+      elim (decLe (length l) p) [
+        | yes past ↦ List·getD-eq-default (withTable t at l) 0 (omega (arith, table-length)) ∙ sym (List·getD-eq-default l 0 past)
+        | no f ↦ table-word p (omega arith) ∙ rw (apart at tableSize p out)
+      ]
+
+  -- ---- the words written so far: the first n, and every later word is as it was
+  pub record Written (n : ℕ) (m : List ℕ) : Type 0 where
+    pub long : length m ≡ length l
+    pub done : (p : ℕ) → p < at + n → word m p ≡ word (withTable t at l) p
+    pub left : (p : ℕ) → at + n ≤ p → word m p ≡ word l p
+
+  pub written-none : Written 0 l
+  written-none = record { long = refl; done = λ p h. sym (table-out p (λ a b. let z : ⊥ = omega arith in z)); left = λ p h. refl }
+
+  pub written-next : (n : ℕ) {m : List ℕ} → n < tableSize → at + n < length l → Written n m → Written (n + 1) (set m (at + n) (tableWord t n (word m (at + n))))
+  written-next n {m} h room w =
+      let x = tableWord t n (word m (at + n)) in
+      let here : x ≡ word (withTable t at l) (at + n) = ap (tableWord t n) (w .left (at + n) (omega arith)) ∙ sym (table-in n h room) in
+      record {
+        long = length-set m (at + n) x ∙ w .long;
+        done = λ p k. elim (decLe (at + n) p) [
+          | yes low ↦ let same : at + n ≡ p = omega arith in
+              subst (λ (q : ℕ). word (set m (at + n) x) q ≡ word (withTable t at l) q) same (getD-set-same m (at + n) x 0 (omega (arith, w .long)) ∙ here)
+          | no f ↦ getD-set-other m (at + n) p x 0 (λ e. let z : ⊥ = omega arith in z) ∙ w .done p (omega arith)
+        ];
+        left = λ p k. getD-set-other m (at + n) p x 0 (λ e. let z : ⊥ = omega arith in z) ∙ w .left p (omega arith);
+      }
+
+  pub written-all : {m : List ℕ} → Written tableSize m → m ≡ withTable t at l
+  written-all {m} w =
+      ext-getD 0 m (withTable t at l) (w .long ∙ sym table-length)
+      (λ p h. elim (decLe (at + tableSize) p) [
+        | yes past ↦ w .left p past ∙ sym (table-out p (λ a b. let z : ⊥ = omega arith in z))
+        | no f ↦ w .done p (omega arith)
+      ])
 
 -- ---- word i of a table
 pub tableWord-layout : (t : RegionTable) (i old : ℕ) → i < layoutSize → tableWord t i old ≡ word (layoutWords (t .layout)) i

@@ -6,4 +6,3 @@ pub mod Lookups
 pub mod Ready
 pub mod Sheets
 pub mod Feeding
-pub mod Steps

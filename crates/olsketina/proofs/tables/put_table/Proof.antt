@@ -1,28 +1,25 @@
 -- `olsketina::tables::put_table` meets its contract. The loop's invariant: the first i words are written. Assumes nothing.
 use Prim.Native.Nat.{ℕ, _+_, _-_, _≤_}
 use native.Mathlib.Omega.{arith}
-use mathlib.Core.Path.{_≡_, ap, _∙_}
+use mathlib.Core.Path.{_≡_, sym, subst}
 use lib.ListN.{length, set}
 use Rattle.olsketina.specs.Sizes.{tableSize}
-use Rattle.olsketina.specs.Steps.{withFirst}
-use Rattle.olsketina.proofs.TableLaws.{first-length, first-none, first-next, first-all}
+use Rattle.olsketina.proofs.TableLaws.{Written, written-none, written-next, written-all}
 use Rattle.olsketina.proofs.tables.put_table.Statement.{statement}
 use Rattle.olsketina.proofs.tables.put_table.Tie as tie
 
 abbrev Inv-loop : tie.InvT-loop
-Inv-loop words₀ at table i₀ words i = (i ≤ tableSize) × (words ≡ withFirst table at i words₀)
+Inv-loop words₀ at table i₀ words i = (i ≤ tableSize) × Written table at words₀ i words
 
 abbrev μ-loop : tie.MeasureT-loop
 μ-loop words₀ at table i₀ words i = tableSize - i
 
 -- the words have kept their number
 long : (c : tie.At-loop Inv-loop μ-loop) → length (c .loop .words) ≡ length (c .before .before .args .words .now)
-long c =
-    let a = c .before .before .args in
-    ap length (c .loop .inv .1) ∙ first-length (a .table) (a .at) (c .loop .i) (a .words .now)
+long c = c .loop .inv .1 .long
 
 loop-holds : tie.Need-loop-holds Inv-loop μ-loop
-loop-holds c = let a = c .before .args in (omega arith, first-none (a .table) (a .at) (a .words .now))
+loop-holds c = let a = c .before .args in (omega arith, written-none (a .table) (a .at) (a .words .now))
 
 add-old : tie.Need-add-old Inv-loop μ-loop
 add-old c = omega arith
@@ -55,7 +52,8 @@ loop-again : tie.Need-loop-again Inv-loop μ-loop
 loop-again c =
     let l = c .before .before .before in
     let a = l .before .before .args in
-    (omega arith, first-next (a .table) (a .at) (l .loop .i) (a .words .now) (omega arith) (l .loop .inv .1) (ap (set (l .loop .words) (a .at + l .loop .i)) (c .table-word .ensures)))
+    let next = written-next (a .table) (a .at) (a .words .now) (l .loop .i) (omega arith) (omega arith) (l .loop .inv .1) in
+    (omega arith, subst (λ (x : ℕ). Written (a .table) (a .at) (a .words .now) (l .loop .i + 1) (set (l .loop .words) (a .at + l .loop .i) x)) (sym (c .table-word .ensures)) next)
 
 same-length : tie.Need-same-length Inv-loop μ-loop
 same-length c = long (c .before)
@@ -65,7 +63,7 @@ returns c =
     let l = c .before in
     let a = l .before .before .args in
     let all : l .loop .i ≡ tableSize = omega (arith, l .loop .inv .0) in
-    l .loop .inv .1 ∙ ap (λ (n : ℕ). withFirst (a .table) (a .at) n (a .words .now)) all ∙ first-all (a .table) (a .at) (a .words .now)
+    written-all (a .table) (a .at) (a .words .now) (subst (λ (n : ℕ). Written (a .table) (a .at) (a .words .now) n (l .loop .words)) all (l .loop .inv .1))
 
 pub put-table-spec : {M : Type 1} → statement M
 put-table-spec =

@@ -4,15 +4,16 @@ use native.Mathlib.Omega.{arith}
 use native.Mathlib.Nat.{not-suc-le-zero}
 use mathlib.Core.Path.{_≡_, refl, _∙_}
 use lib.ListN.{length, length-set}
+use Rattle.olsketina.specs.Sizes.{slotCount}
 use Rattle.olsketina.proofs.TableLaws.{SlotsRead, slots-next, slots-all}
 use Rattle.olsketina.proofs.tables.slots_at.Statement.{statement}
 use Rattle.olsketina.proofs.tables.slots_at.Tie as tie
 
 abbrev Inv-loop : tie.InvT-loop
-Inv-loop words at slots₀ i₀ slots i = (i ≤ 16) × (length slots ≡ 16) × SlotsRead words at slots i
+Inv-loop words at slots₀ i₀ slots i = (i ≤ slotCount) × (length slots ≡ slotCount) × SlotsRead words at slots i
 
 abbrev μ-loop : tie.MeasureT-loop
-μ-loop words at slots₀ i₀ slots i = 16 - i
+μ-loop words at slots₀ i₀ slots i = slotCount - i
 
 loop-holds : tie.Need-loop-holds Inv-loop μ-loop
 loop-holds c = (omega arith, refl, λ j h. absurd (not-suc-le-zero h))
