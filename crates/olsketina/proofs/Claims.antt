@@ -27,18 +27,16 @@ use Rattle.script.specs.Feed.{startSheet, fed, finished}
 use Rattle.script.proofs.Claims.{however-cut}
 use Rattle.olsketina.specs.Sizes.{layoutSize, slotSize, slotCount, tableSize, stateSize}
 use Rattle.olsketina.specs.Words.{word}
-use Rattle.olsketina.specs.Tables.{tableAt, withTable}
+use Rattle.olsketina.specs.Tables.{tableAt, withTable, Outside}
 use Rattle.olsketina.specs.Lookups.{countersFrom, counterWords}
-use Rattle.olsketina.specs.Sheets.{sheetFrom, withSheet, rowWords}
-use Rattle.olsketina.specs.Feeding.{Held, begun, rowsHeld}
+use Rattle.olsketina.specs.Ready.{fedBack}
+use Rattle.olsketina.specs.Sheets.{sheetFrom, withSheet, rowWords, HasRefusal}
+use Rattle.olsketina.specs.Feeding.{Held, begun, rowsHeld, wordsOf}
 use Rattle.olsketina.proofs.TableLaws as table
-use Rattle.olsketina.proofs.TableLaws.{Outside}
 use Rattle.olsketina.proofs.PlaceLaws as place
 use Rattle.olsketina.proofs.SheetLaws as state
 use Rattle.olsketina.proofs.FeedLaws as feed
-use Rattle.olsketina.proofs.FeedLaws.{HasRefusal, wordsOf}
 use Rattle.olsketina.proofs.ReadyLaws as ready
-use Rattle.olsketina.proofs.ReadyLaws.{fedBack}
 
 -- ---- tables
 

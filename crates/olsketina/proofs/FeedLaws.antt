@@ -3,17 +3,15 @@
 --     fed-refused, finished-refused      a refused record leaves frame and table
 --     rows-held                          the rows of all calls
 use Prim.Native.Nat.{ℕ, zero, suc}
-use native.Mathlib.Omega.{arith}
 use mathlib.Core.Path.{_≡_, refl, sym, ap, _∙_, subst}
 use mathlib.Core.Bool.{Bool, true, false, cond}
-use mathlib.Core.List.{List, [], _∷_, _++_, map, map-append}
+use mathlib.Core.List.{List, [], _∷_, map, map-append}
 use lib.ListN.{length, drop}
 use lib.Dec.{eqb}
 use Rattle.refusal.specs.declared.Answer.{Answer}
 use Rattle.refusal.specs.declared.Answer.the-variants.{Accepted, Refused}
 use Rattle.refusal.specs.Checks.{leaves}
 use Rattle.regions.specs.Slots.{rectangle}
-use Rattle.regions.specs.Calls.{placeTable}
 use Rattle.lines.specs.Collecting.{collected}
 use Rattle.records.specs.declared.Record.{Record}
 use Rattle.records.specs.declared.Record.the-variants.{Frame, Stall, Cell, Unreadable}
@@ -28,19 +26,14 @@ use Rattle.script.specs.Sheets.{rowOf}
 use Rattle.script.specs.Feed.{deskOf, withLines, lineEnded, lineRow, lineFed, fed, finished, andThen, partFed, rowsOfParts}
 use Rattle.script.proofs.Claims.{refused-changes-nothing}
 use Rattle.olsketina.specs.Sizes.{slotCount, stateSize}
-use Rattle.olsketina.specs.Words.{word}
-use Rattle.olsketina.specs.Sheets.{sheetFrom, withSheet, rowWords}
-use Rattle.olsketina.specs.Feeding.{Held, heldSheet, holding, rowThen, partHeld, rowsHeld}
+use Rattle.olsketina.specs.Sheets.{rowWords, HasRefusal}
+use Rattle.olsketina.specs.Feeding.{Held, heldSheet, holding, rowThen, partHeld, rowsHeld, wordsOf}
 use Rattle.olsketina.proofs.PlaceLaws.{placed-all}
 use Rattle.olsketina.proofs.SheetLaws.{sheet-back, sheet-length}
 
 -- a call that ended no line
 abbrev openFed : Sheet → ℕ → Fed
 openFed s n = record { sheet = s; read = n; given = Nothing }
-
--- the row has a refusal: its word for it is not 0
-abbrev pub HasRefusal : Given → Type 0
-HasRefusal given = word (rowWords given) 2 ≡ 0 → ⊥
 
 -- ---- a refused record
 ended-refused : (s : Sheet) → HasRefusal (Line (lineRow s)) → deskOf (lineEnded s) ≡ deskOf s
@@ -103,9 +96,6 @@ holding-says h s long slots =
     record { long = sheet-length s (h .words) long ∙ long; slots = slots; said = sheet-back s (h .words) long slots }
 
 -- ---- the rows
-abbrev pub wordsOf : List Row → List (List ℕ)
-wordsOf rows = map (λ (r : Row). rowWords (Line r)) rows
-
 then-words : (g : Given) (rows : List Row) {words : List (List ℕ)} → words ≡ wordsOf rows → rowThen g words ≡ wordsOf (andThen g rows)
 unfolding rowThen andThen
 then-words Nothing rows e = e

@@ -1,7 +1,7 @@
 -- A placing: the words say the table handed back, and none but the slot's own change. Assumes nothing.
 --     placed-all      a placing keeps the number of slots
 --     place-back, place-alone
-use Prim.Native.Nat.{ℕ, _+_, _*_, _≤_, _<_}
+use Prim.Native.Nat.{ℕ, _+_, _*_}
 use native.Mathlib.Omega.{arith}
 use native.Mathlib.Decide.{decLe}
 use mathlib.Core.Path.{_≡_, refl, _∙_, subst}
@@ -18,8 +18,8 @@ use Rattle.regions.specs.Calls.{placeAnswer, placeTable, placedRegion}
 use Rattle.regions.proofs.CallLaws.{place-kept, place-left}
 use Rattle.olsketina.specs.Sizes.{layoutSize, slotSize, slotCount, tableSize}
 use Rattle.olsketina.specs.Words.{word}
-use Rattle.olsketina.specs.Tables.{regionAt, slotsAt, tableAt, withTable}
-use Rattle.olsketina.proofs.TableLaws.{Outside, table-in, table-out, decoded, word-same, slot-other}
+use Rattle.olsketina.specs.Tables.{regionAt, slotsAt, tableAt, withTable, Outside}
+use Rattle.olsketina.proofs.TableLaws.{table-in, table-out, decoded, word-same, slot-other}
 
 -- a table of words has all slots, and a placing keeps their number
 pub table-slots : (l : List ℕ) (at : ℕ) → length (tableAt l at .slots) ≡ slotCount

@@ -1,5 +1,5 @@
 -- The ready-made words say the ready-made settings. Assumes nothing.
-use mathlib.Core.Path.{_≡_, refl, sym, ap, _∙_, subst}
+use mathlib.Core.Path.{_≡_, refl, ap, subst}
 use lib.IntN.{ℤ}
 use Rattle.refusal.specs.declared.Answer.{Answer}
 use Rattle.refusal.specs.declared.Answer.the-variants.{Accepted, Refused}
@@ -11,15 +11,9 @@ use Rattle.camera.specs.declared.Choice.{Choice}
 use Rattle.camera.specs.declared.Ready.{Ready}
 use Rattle.camera.specs.declared.Ready.the-variants.{Setting, Refused as NotGiven}
 use Rattle.camera.specs.Ready.{readyChecks, readySettings, readyAnswer}
-use Rattle.olsketina.specs.Words.{word}
 use Rattle.olsketina.specs.Tables.{says}
 use Rattle.olsketina.specs.Lookups.{tableNamed, settingsFrom, linearFrom}
-use Rattle.olsketina.specs.Ready.{modeNumber, tableWord, xWords, yWords, scaleWords, shiftWords, priorityWords}
-
--- the settings of a linear run on the words of settings
-abbrev pub fedBack : LutSettings → LutSettings
-fedBack s =
-    linearFrom (xWords s) (yWords s) (scaleWords s) (shiftWords s) (says (word (priorityWords s) 0)) (says (word (priorityWords s) 1)) (says (word (priorityWords s) 2))
+use Rattle.olsketina.specs.Ready.{modeNumber, tableWord, fedBack}
 
 named-back : (t : Table) → tableNamed (says (tableWord t)) ≡ t
 unfolding tableNamed tableWord

@@ -11,7 +11,7 @@ use lib.ListN.{length, set, length-set}
 use lib.Seq.{getD-set-same, getD-set-other, set-getD}
 use Rattle.regions.specs.declared.RegionTable.{RegionTable}
 use Rattle.script.specs.declared.Sheet.{Sheet}
-use Rattle.olsketina.specs.Sizes.{slotCount, tableSize, stateTable, stateSize}
+use Rattle.olsketina.specs.Sizes.{slotCount, stateTable, stateSize}
 use Rattle.olsketina.specs.Words.{word}
 use Rattle.olsketina.specs.Tables.{says, tableAt, flagWord, tableWord, withTable}
 use Rattle.olsketina.specs.Sheets.{sheetFrom, withProgress, withSheet}

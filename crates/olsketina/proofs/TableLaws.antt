@@ -26,7 +26,7 @@ use Rattle.regions.specs.declared.Region.{Region}
 use Rattle.regions.specs.declared.RegionTable.{RegionTable}
 use Rattle.olsketina.specs.Sizes.{layoutSize, slotSize, slotCount, tableSize}
 use Rattle.olsketina.specs.Words.{word, layoutAt}
-use Rattle.olsketina.specs.Tables.{regionAt, slotsAt, tableAt, layoutWords, regionWords, noRegion, tableWord, withTable}
+use Rattle.olsketina.specs.Tables.{regionAt, slotsAt, tableAt, layoutWords, regionWords, noRegion, tableWord, withTable, Outside}
 use Rattle.olsketina.proofs.WordLaws.{says-flag, flagWord-says}
 
 -- ---- the slots read so far
@@ -51,10 +51,6 @@ slots-all l at slots long read =
     read i low ∙ sym (getD-tabulate (λ (i : ℕ). regionAt l (at + slotSize * i)) slotCount i noRegion low))
 
 -- ---- the words after a table was written
-
--- p is none of n words from `at` on
-abbrev pub Outside : ℕ → ℕ → ℕ → Type 0
-Outside at n p = at ≤ p → p < at + n → ⊥
 
 apart : (at n p : ℕ) → Outside at n p → (leb at p && ltb p (at + n)) ≡ false
 apart at n p out =

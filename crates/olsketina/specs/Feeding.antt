@@ -1,9 +1,10 @@
 -- A sheet's calls as a C program makes them, one after another, over the words that it holds. That the rows are those of the whole input is a
 -- theorem (proofs/Claims.antt). Assumes nothing.
 use Prim.Native.Nat.{ℕ, zero, suc}
-use mathlib.Core.List.{List, [], _∷_, _++_}
+use mathlib.Core.List.{List, [], _∷_, _++_, map}
 use lib.ListN.{length, drop}
 use Rattle.script.specs.declared.Sheet.{Sheet}
+use Rattle.script.specs.declared.Row.{Row}
 use Rattle.script.specs.declared.Given.{Given}
 use Rattle.script.specs.declared.Given.the-variants.{Nothing, Line}
 use Rattle.script.specs.Feed.{startSheet, fed, finished}
@@ -47,3 +48,7 @@ partHeld (suc calls) h part =
 unfoldable pub rowsHeld : Held → List (List ℕ) → List (List ℕ)
 rowsHeld h [] = rowThen (finished (heldSheet h) .given) []
 rowsHeld h (part ∷ parts) = partHeld (length part) h part .rows ++ rowsHeld (partHeld (length part) h part .held) parts
+
+-- rows as words
+abbrev pub wordsOf : List Row → List (List ℕ)
+wordsOf rows = map (λ (r : Row). rowWords (Line r)) rows

@@ -10,6 +10,9 @@ use Rattle.lut.specs.declared.XMode.the-variants.{Linear, Exponential}
 use Rattle.lut.specs.declared.Table.{Table}
 use Rattle.lut.specs.declared.Table.the-variants.{X, Y}
 use Rattle.lut.specs.declared.LutSettings.{LutSettings}
+use Rattle.olsketina.specs.Words.{word}
+use Rattle.olsketina.specs.Tables.{says}
+use Rattle.olsketina.specs.Lookups.{linearFrom}
 use Rattle.camera.specs.declared.Choice.{Choice}
 use Rattle.camera.specs.declared.Choice.the-variants.{Unnamed, Named}
 use Rattle.camera.specs.declared.Ready.{Ready}
@@ -66,3 +69,8 @@ pub record ReadyStored (ready : Ready) (x y scales shifts : List ℤ) (prioritie
   pub scales-stored : scales' ≡ readyOver scaleWords ready scales
   pub shifts-stored : shifts' ≡ readyOver shiftWords ready shifts
   pub priorities-stored : priorities' ≡ readyOver priorityWords ready priorities
+
+-- the settings of a linear run on the words of settings
+abbrev pub fedBack : LutSettings → LutSettings
+fedBack s =
+    linearFrom (xWords s) (yWords s) (scaleWords s) (shiftWords s) (says (word (priorityWords s) 0)) (says (word (priorityWords s) 1)) (says (word (priorityWords s) 2))

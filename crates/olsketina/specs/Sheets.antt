@@ -1,5 +1,6 @@
 -- A sheet's state and rows as arrays of words (include/olsketina.h). Any contents are a state. Assumes nothing.
 use Prim.Native.Nat.{ℕ, _+_, _*_, _/_, _%_}
+use mathlib.Core.Path.{_≡_}
 use mathlib.Core.List.{List, [], _∷_}
 use lib.ListN.{set}
 use Rattle.refusal.specs.Codes.{answerCode, faultIndex}
@@ -28,3 +29,7 @@ withSheet s l = withTable (s .table) stateTable (withProgress s l)
 unfoldable pub rowWords : Given → List ℕ
 rowWords Nothing = 0 ∷ 0 ∷ 0 ∷ 0 ∷ 0 ∷ []
 rowWords (Line row) = 1 ∷ row .line ∷ answerCode (row .answer) ∷ faultIndex (row .answer) ∷ row .value ∷ []
+
+-- the row has a refusal: its word for it is not 0
+abbrev pub HasRefusal : Given → Type 0
+HasRefusal given = word (rowWords given) 2 ≡ 0 → ⊥

@@ -1,6 +1,6 @@
 -- The region table as an array of words: the layout's, then for each slot placed, first column, first row, columns, rows. Any contents are a
 -- table. Assumes nothing.
-use Prim.Native.Nat.{ℕ, _+_, _-_, _*_, _/_, _%_}
+use Prim.Native.Nat.{ℕ, _+_, _-_, _*_, _/_, _%_, _≤_, _<_}
 use mathlib.Core.Bool.{Bool, true, false, not, _&&_, cond}
 use mathlib.Core.List.{List, [], _∷_}
 use lib.ListN.{getD}
@@ -59,3 +59,7 @@ tableWord t i old =
 -- a table's words written from `at` on, every other word as it was
 unfoldable pub withTable : RegionTable → ℕ → List ℕ → List ℕ
 withTable t at l = remade (λ (p old : ℕ). cond (leb at p && ltb p (at + tableSize)) (tableWord t (p - at) old) old) l
+
+-- p is none of n words from `at` on
+abbrev pub Outside : ℕ → ℕ → ℕ → Type 0
+Outside at n p = at ≤ p → p < at + n → ⊥

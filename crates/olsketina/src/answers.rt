@@ -1,5 +1,4 @@
 // Answers as numbers: what a call returns, and what it stores.
-ghost use mathlib.Core.Path.{_≡_};
 ghost use Rattle.olsketina.specs.Answers.{Answered, Valued, Converted};
 use quantize::Quantized;
 use refusal::Answer;

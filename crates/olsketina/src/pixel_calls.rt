@@ -1,5 +1,4 @@
 // Pixel images, and integer conversion.
-ghost use mathlib.Core.Path.{_≡_};
 ghost use Rattle.pixels.specs.Settings.{settingAnswer, positionQuantity};
 ghost use Rattle.quantize.specs.Quantize.{quantizeAnswer};
 ghost use Rattle.olsketina.specs.Answers.{Answered, Valued, Converted};

@@ -1,6 +1,5 @@
 // A sheet's input fed in parts, and the text that it prints.
 ghost use mathlib.Core.Path.{_≡_};
-ghost use Prim.Native.Nat.{ℕ};
 ghost use lib.IntN.{pos};
 ghost use Rattle.lines.specs.Collecting.{written};
 ghost use Rattle.script.specs.Feed.{startSheet, fed, finished};

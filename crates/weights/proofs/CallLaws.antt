@@ -19,7 +19,7 @@ use Rattle.refusal.proofs.CheckLaws.{inOrder-held, inOrder-rest, inOrder-front,
 use Rattle.elements.specs.Values.{valueChecks}
 use Rattle.weights.specs.declared.WeightLayout.{WeightLayout}
 use Rattle.weights.specs.Geometry.{elementCount, surfaceBytes}
-use Rattle.weights.specs.Rules.{sizesValid, settingChecks, weightChecks}
+use Rattle.weights.specs.Rules.{sizesValid, weightChecks}
 use Rattle.weights.specs.Contents.{packed, unpacked}
 use Rattle.weights.specs.Calls.{packAnswer, packBuffer, unpackAnswer, unpackElements}
 use Rattle.weights.proofs.Valid.{Valid, valid}
@@ -32,7 +32,7 @@ pub record Admitted (q : WeightLayout) (given len : ℕ) : Type 0 where
   pub room : surfaceBytes q ≤ len
 
 pub admitted : (q : WeightLayout) (given len : ℕ) → inOrder (weightChecks q given len) ≡ Accepted → Admitted q given len
-unfolding weightChecks settingChecks
+unfolding weightChecks
 admitted q given len e =
     let sz : Bool = sizesValid q in
     let pr : Bool = ltb (q .precision) 3 in

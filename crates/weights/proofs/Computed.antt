@@ -2,7 +2,7 @@
 -- numbers": "Orders"). Assumes nothing.
 use Prim.Native.Nat.{ℕ}
 use mathlib.Core.Path.{_≡_, refl}
-use mathlib.Core.List.{List, [], _∷_, map}
+use mathlib.Core.List.{List, [], _∷_}
 use lib.IntN.{ℤ, pos}
 use Rattle.refusal.specs.declared.Refusal.the-variants.{Size, Precision, Int8Range, Bounds}
 use Rattle.refusal.specs.declared.Answer.the-variants.{Refused}
@@ -15,7 +15,7 @@ use Rattle.elements.specs.Bytes.{elementBytes}
 use Rattle.elements.specs.Values.{valueValid, valueCheck, valueChecksFrom, valueChecks}
 use Rattle.weights.specs.declared.WeightLayout.{WeightLayout}
 use Rattle.weights.specs.Geometry.{groupSize, elementCount, groupKernels, blockChannels, offsetNumber, elementNumber, elementPosition, surfaceBytes}
-use Rattle.weights.specs.Rules.{sizesValid, settingChecks, weightChecks, elementInside, elementChecks}
+use Rattle.weights.specs.Rules.{sizesValid, weightChecks, elementInside, elementChecks}
 use Rattle.weights.specs.Calls.{packAnswer, unpackAnswer, countQuantity, extentQuantity, positionQuantity}
 
 abbrev weights : ℕ → ℕ → ℕ → ℕ → ℕ → WeightLayout
@@ -53,7 +53,7 @@ pub record Computed : Type 0 where
   pub unpacking-double : answerCode (unpackAnswer (weights 0 1 1 1 3) 0 0) ∷ answerCode (unpackAnswer (weights 1 1 1 1 3) 0 0) ∷ answerCode (unpackAnswer (weights 1 1 1 1 0) 0 127) ∷ [] ≡ 1 ∷ 2 ∷ 6 ∷ []
 
 pub computed : Computed
-unfolding requireAt inOrder result sizeValid elementBytes valueValid valueCheck valueChecksFrom valueChecks groupSize elementCount groupKernels blockChannels offsetNumber elementNumber elementPosition surfaceBytes sizesValid settingChecks weightChecks elementInside elementChecks packAnswer unpackAnswer countQuantity extentQuantity positionQuantity
+unfolding requireAt inOrder result sizeValid elementBytes valueValid valueCheck valueChecksFrom valueChecks groupSize elementCount groupKernels blockChannels offsetNumber elementNumber elementPosition surfaceBytes sizesValid weightChecks elementInside elementChecks packAnswer unpackAnswer countQuantity extentQuantity positionQuantity
 computed =
     record {
       positions = refl;

@@ -23,16 +23,16 @@ module _ (q : WeightLayout) where
   r2 = require Precision (ltb (q .precision) 3) ∷ []
 
   pub setting-sizes : sizesValid q ≡ false → Refused Size 0 ≡ inOrder (settingChecks q)
-  unfolding settingChecks r2
+  unfolding r2
   setting-sizes e = sym (inOrder-stop 0 Size r2 e)
 
   pub setting-held : inOrder (settingChecks q) ≡ Accepted → sizesValid q ≡ true
-  unfolding settingChecks r2
+  unfolding r2
   setting-held e = inOrder-held 0 Size (sizesValid q) r2 e
 
   module _ (sz : sizesValid q ≡ true) where
     to-precision : inOrder (settingChecks q) ≡ inOrder r2
-    unfolding settingChecks r2
+    unfolding r2
     to-precision = inOrder-next 0 Size r2 sz
 
     pub setting-precision : 3 ≤ q .precision → Refused Precision 0 ≡ inOrder (settingChecks q)

@@ -15,7 +15,7 @@ unfoldable pub sizesValid : WeightLayout → Bool
 sizesValid q = sizeValid 8192 (q .kernels) && sizeValid 8192 (q .channels) && sizeValid 32 (q .rows) && sizeValid 32 (q .columns)
 
 -- 1, 2: sizes, precision
-unfoldable pub settingChecks : WeightLayout → List Answer
+abbrev pub settingChecks : WeightLayout → List Answer
 settingChecks q = require Size (sizesValid q) ∷ require Precision (ltb (q .precision) 3) ∷ []
 
 -- 1, 2, 6, 5: a setting, `given` elements, a buffer of `len` bytes

@@ -1,5 +1,5 @@
 -- `olsketina::lut_words::keep_counters` meets its contract: an accepted run's counters are stored, a refused one leaves the words. Assumes nothing.
-use mathlib.Core.Path.{refl, sym, _∙_}
+use mathlib.Core.Path.{sym}
 use Rattle.olsketina.specs.Lookups.{counterWords}
 use Rattle.refusal.proofs.CheckLaws.{leaves-done, leaves-before}
 use borrow.Author.Needs.{needs}
@@ -13,7 +13,6 @@ enum-told-2 : tie.Need-enum-told-2
 enum-told-2 c = search needs
 
 returns : tie.Need-returns
-unfolding counterWords
 returns c = let s = c .before .before .before in sym (leaves-done (counterWords (s .args .counters)) (s .args .words .now) (c .before .enum-told .given .1))
 
 returns-2 : tie.Need-returns-2

@@ -1,7 +1,6 @@
 -- `olsketina::lut_words::slope_at` meets its contract: scale and shift are the numbers at the index. Assumes nothing.
 use mir.Facts.{toZ-ofZ}
 use borrow.Author.Needs.{needs, sfits-of}
-use Rattle.olsketina.specs.Lookups.{slopeAt}
 use Rattle.olsketina.proofs.lut_words.slope_at.Statement.{statement}
 use Rattle.olsketina.proofs.lut_words.slope_at.Tie as tie
 
@@ -18,7 +17,6 @@ element-copy-out-t11 : tie.Need-element-copy-out-t11
 element-copy-out-t11 c = search needs
 
 returns : tie.Need-returns
-unfolding slopeAt
 returns c = rw (toZ-ofZ (sfits-of (c .before .t7 .given)), toZ-ofZ (sfits-of (c .t11 .given)))
 
 pub slope-at-spec : {M : Type 1} → statement M

@@ -1,6 +1,5 @@
 -- `olsketina::ready_calls::put_ready` meets its contract: settings are stored, a refusal leaves the words. Assumes nothing.
 use mathlib.Core.Path.{refl}
-use Rattle.olsketina.specs.Ready.{ReadyStored}
 use borrow.Author.Needs.{needs}
 use Rattle.olsketina.proofs.ready_calls.put_ready.Statement.{statement}
 use Rattle.olsketina.proofs.ready_calls.put_ready.Tie as tie

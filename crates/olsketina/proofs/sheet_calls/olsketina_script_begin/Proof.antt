@@ -1,6 +1,5 @@
 -- `olsketina::sheet_calls::olsketina_script_begin` meets its contract: it hands on what `script::begin` gives. Assumes nothing.
 use mathlib.Core.Path.{_∙_}
-use Rattle.olsketina.specs.Sheets.{withSheet}
 use borrow.Author.Needs.{needs}
 use Rattle.olsketina.proofs.sheet_calls.olsketina_script_begin.Statement.{statement}
 use Rattle.olsketina.proofs.sheet_calls.olsketina_script_begin.Tie as tie

@@ -1,12 +1,11 @@
 -- `weights::element::number_of` meets its contract: its sum is the definition's, part by part, and each part is small. Assumes nothing.
 use Prim.Native.Nat.{ℕ, _+_, _-_, _*_, _/_, _%_, _≤_, _<_, min}
-use native.Mathlib.Nat.{div-add-mod', mod-lt, mul-le-mul}
+use native.Mathlib.Nat.{div-add-mod', mod-lt}
 use native.Mathlib.Omega.{arith}
-use mathlib.Core.Path.{_≡_, sym, ap, _∙_, subst}
+use mathlib.Core.Path.{_≡_, sym, subst}
 use lib.Arith.{digits-lt}
 use Rattle.weights.specs.declared.WeightLayout.{WeightLayout}
 use Rattle.weights.specs.Geometry.{groupOf, groupSize, groupKernels, blockChannels, offsetNumber, elementNumber}
-use Rattle.weights.specs.Places.{Element}
 use Rattle.weights.proofs.Valid.{Valid, valid}
 use Rattle.weights.proofs.NumberLaws.{groupSize-pos, groupSize-le}
 use Rattle.weights.proofs.BoundLaws.{pixels-le, Pieces, groups-le, blocks-le, pixel-kernels-le, within-le, before-le}

@@ -1,10 +1,8 @@
 -- `weights::element::position_of` meets its contract: a number below the count, times the element's bytes. Assumes nothing.
-use Prim.Native.Nat.{ℕ, _*_, _<_}
-use native.Mathlib.Nat.{mul-le-mul}
+use Prim.Native.Nat.{ℕ, _*_}
 use native.Mathlib.Omega.{arith}
 use mathlib.Core.Path.{_≡_, ap₂}
-use Rattle.elements.proofs.ByteLaws.{elementBytes-le}
-use Rattle.weights.specs.Geometry.{sizeOf, elementNumber, elementPosition}
+use Rattle.weights.specs.Geometry.{elementPosition}
 use Rattle.weights.proofs.Valid.{valid}
 use Rattle.weights.proofs.BoundLaws.{position-lt}
 use borrow.Author.Needs.{needs}
