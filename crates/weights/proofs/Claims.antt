@@ -1,5 +1,5 @@
 -- The claims about packed weights, of the calls themselves (demand 2; scope paper, "Weights"). Packing was accepted. Then each element has its own
--- aligned place inside the buffer; packing writes the elements' bytes, fills with 0 up to a multiple of 128 bytes and keeps every later byte, and
+-- aligned place inside the buffer, which `position` gives, and `count` and `extent` give the elements lent and the bytes packed; packing writes the elements' bytes, fills with 0 up to a multiple of 128 bytes and keeps every later byte, and
 -- there is no fourth kind; unpacking what packing left is accepted and fills the caller's elements with the raw weights. The words are those of
 -- specs/Places.antt. Once over the element size and the group size. Assumes nothing.
 use Prim.Native.Nat.{ℕ, _+_, _%_, _≤_, _<_}
@@ -9,12 +9,13 @@ use mathlib.Core.List.{List}
 use lib.ListN.{length, getD}
 use lib.IntN.{ℤ, pos}
 use Rattle.refusal.specs.declared.Answer.the-variants.{Accepted}
+use Rattle.refusal.specs.declared.Quantity.the-variants.{Is}
 use Rattle.elements.specs.Bytes.{byteOf}
 use Rattle.elements.specs.Values.{SixteenBit}
 use Rattle.weights.specs.declared.WeightLayout.{WeightLayout}
 use Rattle.weights.specs.Geometry.{sizeOf, elementCount, rawIndex, elementPosition, surfaceBytes, rawAt, numberAt}
 use Rattle.weights.specs.Places.{Element, ElementByte, FillByte}
-use Rattle.weights.specs.Calls.{packAnswer, packBuffer, unpackAnswer, unpackElements}
+use Rattle.weights.specs.Calls.{packAnswer, packBuffer, unpackAnswer, unpackElements, countQuantity, extentQuantity, positionQuantity}
 use Rattle.weights.proofs.PackLaws as pack
 
 module _ (q : WeightLayout) (raw : List ℤ) (before : List ℕ) (accepted : packAnswer q raw (length before) ≡ Accepted) where
@@ -27,6 +28,12 @@ module _ (q : WeightLayout) (raw : List ℤ) (before : List ℕ) (accepted : pac
 
   pub element-inside : (k c r s : ℕ) → Element q k c r s → elementPosition q k c r s + sizeOf q ≤ length before
   element-inside = pack.element-inside q raw before accepted
+
+  pub position-given : (k c r s : ℕ) → Element q k c r s → positionQuantity q k c r s ≡ Is (elementPosition q k c r s)
+  position-given = pack.position-given q raw before accepted
+
+  pub counts-given : (countQuantity q ≡ Is (length raw)) × (extentQuantity q ≡ Is (surfaceBytes q))
+  counts-given = pack.counts-given q raw before accepted
 
   pub element-written : (k c r s b : ℕ) → Element q k c r s → b < sizeOf q
       → getD (packBuffer q raw before) (elementPosition q k c r s + b) 0 ≡ byteOf (getD raw (rawIndex q k c r s) (pos 0)) b

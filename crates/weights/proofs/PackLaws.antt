@@ -3,21 +3,25 @@
 use Prim.Native.Nat.{ℕ, _+_, _*_, _%_, _≤_, _<_}
 use native.Mathlib.Omega.{arith}
 use native.Mathlib.Decide.{decLt}
-use mathlib.Core.Path.{_≡_, ap, _∙_}
+use mathlib.Core.Path.{_≡_, sym, ap, _∙_}
 use mathlib.Core.Logic.{_⊎_, inl, inr}
 use mathlib.Core.List.{List}
 use lib.ListN.{length, getD}
 use lib.IntN.{ℤ, pos}
 use Rattle.refusal.specs.declared.Answer.the-variants.{Accepted}
-use Rattle.refusal.proofs.CheckLaws.{inOrder-front, leaves-done}
+use Rattle.refusal.specs.declared.Quantity.the-variants.{Is}
+use Rattle.refusal.specs.Checks.{inOrder}
+use Rattle.refusal.proofs.CheckLaws.{inOrder-front, leaves-done, result-given}
 use Rattle.elements.specs.Bytes.{byteOf}
 use Rattle.elements.specs.Values.{SixteenBit, valueChecks}
 use Rattle.weights.specs.declared.WeightLayout.{WeightLayout}
 use Rattle.weights.specs.Geometry.{sizeOf, elementCount, rawIndex, elementPosition, surfaceBytes, rawAt, numberAt}
 use Rattle.weights.specs.Places.{Element, ElementByte, FillByte}
-use Rattle.weights.specs.Rules.{weightChecks}
+use Rattle.weights.specs.Rules.{settingChecks, weightChecks}
 use Rattle.weights.specs.Contents.{packed, unpacked}
-use Rattle.weights.specs.Calls.{packAnswer, packBuffer, unpackAnswer, unpackElements}
+use Rattle.weights.specs.Calls.{packAnswer, packBuffer, unpackAnswer, unpackElements, countQuantity, extentQuantity, positionQuantity}
+use Rattle.weights.proofs.Valid.{inside}
+use Rattle.weights.proofs.RuleLaws.{element-valid}
 use Rattle.weights.proofs.CallLaws.{Admitted, pack-admitted}
 use Rattle.weights.proofs.IndexLaws.{rawAt-lt, numberAt-rawAt, rawAt-numberAt}
 use Rattle.weights.proofs.PositionLaws as positions
@@ -27,6 +31,19 @@ use Rattle.weights.proofs.RoundTrip as round-trip
 module _ (q : WeightLayout) (raw : List ℤ) (before : List ℕ) (accepted : packAnswer q raw (length before) ≡ Accepted) where
   adm : Admitted q (length raw) (length before)
   adm = pack-admitted q raw before accepted
+
+  -- checks 1, 2 passed
+  setting : inOrder (settingChecks q) ≡ Accepted
+  unfolding packAnswer weightChecks
+  setting = inOrder-front (settingChecks q) _ (inOrder-front (weightChecks q (length raw) (length before)) (valueChecks (q .precision) raw) accepted)
+
+  pub position-given : (k c r s : ℕ) → Element q k c r s → positionQuantity q k c r s ≡ Is (elementPosition q k c r s)
+  unfolding positionQuantity
+  position-given k c r s x = result-given _ _ (elementPosition q k c r s) (sym (element-valid q k c r s setting (inside q k c r s x)))
+
+  pub counts-given : (countQuantity q ≡ Is (length raw)) × (extentQuantity q ≡ Is (surfaceBytes q))
+  unfolding countQuantity extentQuantity
+  counts-given = (result-given _ _ (elementCount q) setting ∙ ap Is (sym (adm .count)), result-given _ _ (surfaceBytes q) setting)
 
   -- what packing leaves
   left : packBuffer q raw before ≡ packed q raw before

@@ -1,13 +1,13 @@
 -- What accepted sizes tell: the facts behind check 1, which are all that the laws of places need, whatever the precision code. By taking the
 -- check's tests apart. Assumes nothing.
 --     Valid, valid            the facts of a layout that check 1 takes
---     element                 the facts of an element that check 9 takes
+--     element, inside         the facts of an element that check 9 takes, and back
 use Prim.Native.Nat.{ℕ, _≤_, _<_}
 use mathlib.Core.Path.{_≡_}
 use mathlib.Core.Bool.{true, _&&_}
 use lib.Dec.{ltb}
-use borrow.Author.Tests.{ltb-true}
-use Rattle.refusal.proofs.TestLaws.{and-left, and-right}
+use borrow.Author.Tests.{ltb-true, lt-ltb}
+use Rattle.refusal.proofs.TestLaws.{and-left, and-right, and-both}
 use Rattle.weights.specs.declared.WeightLayout.{WeightLayout}
 use Rattle.refusal.specs.Sizes.{sizeValid}
 use Rattle.refusal.proofs.SizeLaws.{size-pos, size-le}
@@ -59,3 +59,8 @@ element q k c r s e =
       row-lt = ltb-true r (q .rows) (and-right (kk && cc) rr e3);
       column-lt = ltb-true s (q .columns) (and-right (kk && cc && rr) ss e);
     }
+
+pub inside : (q : WeightLayout) (k c r s : ℕ) → Element q k c r s → elementInside q k c r s ≡ true
+unfolding elementInside
+inside q k c r s x =
+    and-both (and-both (and-both (lt-ltb k (q .kernels) (x .kernel-lt)) (lt-ltb c (q .channels) (x .channel-lt))) (lt-ltb r (q .rows) (x .row-lt))) (lt-ltb s (q .columns) (x .column-lt))
