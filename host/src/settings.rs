@@ -1,0 +1,60 @@
+//! Direct-convolution weights, pixel images, integer conversion.
+
+use crate::{answered, raw, valued, words, Answer};
+
+words! {
+    /// A weight tensor's sizes and precision code.
+    Weights[5]: kernels, channels, rows, columns, precision
+}
+
+words! {
+    /// A pixel image's setting: format code, sizes, precision code, X offset in pixels, start and line stride in bytes.
+    Image[8]: format, width, height, channels, precision, x_offset, start, line
+}
+
+impl Weights {
+    /// How many elements there are.
+    pub fn count(self) -> Answer<u64> {
+        valued(u64::MAX, |value, fault| unsafe { raw::olsketina_weights_count(&self.into(), value, fault) })
+    }
+
+    /// Bytes of the packed surface, filled to a multiple of 128.
+    pub fn extent(self) -> Answer<u64> {
+        valued(u64::MAX, |value, fault| unsafe { raw::olsketina_weights_extent(&self.into(), value, fault) })
+    }
+
+    /// The byte at which an element begins.
+    pub fn position(self, kernel: u32, channel: u32, row: u32, column: u32) -> Answer<u64> {
+        valued(u64::MAX, |value, fault| unsafe {
+            raw::olsketina_weights_position(&self.into(), kernel, channel, row, column, value, fault)
+        })
+    }
+
+    /// Packs raw weights, filled with 0 to a multiple of 128 bytes; later bytes stay.
+    pub fn pack(self, elements: &[i16], buffer: &mut [u8]) -> Answer<()> {
+        let (from, to) = (elements.as_ptr(), buffer.as_mut_ptr());
+        answered(|fault| unsafe { raw::olsketina_weights_pack(&self.into(), from, elements.len(), to, buffer.len(), fault) })
+    }
+
+    /// Reads packed weights back into raw order.
+    pub fn unpack(self, buffer: &[u8], elements: &mut [i16]) -> Answer<()> {
+        let (from, to) = (buffer.as_ptr(), elements.as_mut_ptr());
+        answered(|fault| unsafe { raw::olsketina_weights_unpack(&self.into(), from, buffer.len(), to, elements.len(), fault) })
+    }
+}
+
+impl Image {
+    pub fn check(self) -> Answer<()> {
+        answered(|fault| unsafe { raw::olsketina_pixels_setting(&self.into(), fault) })
+    }
+
+    /// The byte at which pixel (x, y) begins.
+    pub fn position(self, x: u32, y: u32) -> Answer<u64> {
+        valued(u64::MAX, |value, fault| unsafe { raw::olsketina_pixels_position(&self.into(), x, y, value, fault) })
+    }
+}
+
+/// (d - offset) * scale over 2^shift, rounded down, held to the precision's range.
+pub fn convert(d: i32, offset: i16, scale: i16, shift: u32, precision: u32) -> Answer<i16> {
+    valued(1234, |value, fault| unsafe { raw::olsketina_quantize_convert(d, offset, scale, shift, precision, value, fault) })
+}

@@ -1,0 +1,221 @@
+//! A small generator of pseudorandom numbers, and the settings and lengths that the tests draw from it.
+
+use crate::reference;
+use olsketina::{ElementBox, Layout};
+
+/// Words at and beside the limits.
+pub const EDGES: [u32; 30] = [
+    0,
+    1,
+    2,
+    3,
+    4,
+    5,
+    15,
+    16,
+    17,
+    31,
+    32,
+    33,
+    63,
+    64,
+    65,
+    96,
+    128,
+    256,
+    8191,
+    8192,
+    8193,
+    65535,
+    65536,
+    262144,
+    (1 << 31) - 1,
+    1 << 31,
+    (1 << 31) + 32,
+    u32::MAX - 32,
+    u32::MAX - 31,
+    u32::MAX,
+];
+
+/// Precision codes, unknown ones among them.
+pub const PRECISIONS: [u32; 7] = [0, 1, 2, 3, 4, 1 << 31, u32::MAX];
+
+/// Numbers at and beside the int8 and int16 ranges.
+pub const OUTSIDE: [i16; 6] = [128, -129, i16::MAX, i16::MIN, 127, -128];
+
+/// Calls `take` with each copy of `base` in which two words, or one, are at the limits.
+pub fn each_pair<const N: usize>(base: [u32; N], mut take: impl FnMut([u32; N])) {
+    for first in 0..N {
+        for second in first..N {
+            for one in EDGES {
+                for other in EDGES {
+                    let mut words = base;
+                    words[first] = one;
+                    words[second] = other;
+                    take(words);
+                }
+            }
+        }
+    }
+}
+
+/// xorshift64*.
+pub struct Generator {
+    state: u64,
+}
+
+impl Generator {
+    pub fn new(seed: u64) -> Generator {
+        let mixed = seed.wrapping_add(1).wrapping_mul(0x9e37_79b9_7f4a_7c15);
+        Generator { state: mixed.max(1) }
+    }
+
+    pub fn word(&mut self) -> u64 {
+        self.state ^= self.state >> 12;
+        self.state ^= self.state << 25;
+        self.state ^= self.state >> 27;
+        self.state.wrapping_mul(0x2545_f491_4f6c_dd1d)
+    }
+
+    /// A number below n, which is not 0.
+    pub fn below(&mut self, n: u64) -> u64 {
+        (self.word() >> 11) % n
+    }
+
+    /// An index of something so long.
+    pub fn index(&mut self, length: usize) -> usize {
+        self.below(length as u64) as usize
+    }
+
+    /// A number from low to high, both included.
+    pub fn between(&mut self, low: i64, high: i64) -> i64 {
+        low + self.below((high - low + 1) as u64) as i64
+    }
+
+    /// The same for words.
+    pub fn among(&mut self, low: u32, high: u32) -> u32 {
+        self.between(low.into(), high.into()) as u32
+    }
+
+    /// True once in n times.
+    pub fn one_in(&mut self, n: u64) -> bool {
+        self.below(n) == 0
+    }
+
+    pub fn pick<T: Copy>(&mut self, from: &[T]) -> T {
+        from[self.index(from.len())]
+    }
+
+    pub fn bytes(&mut self, length: usize) -> Vec<u8> {
+        let mut bytes = Vec::with_capacity(length + 8);
+        while bytes.len() < length {
+            bytes.extend(self.word().to_le_bytes());
+        }
+        bytes.truncate(length);
+        bytes
+    }
+
+    /// Elements of any 16-bit value.
+    pub fn any_elements(&mut self, count: usize) -> Vec<i16> {
+        (0..count).map(|_| (self.word() >> 40) as i16).collect()
+    }
+
+    /// Elements that a precision takes, the ends of its range among them.
+    pub fn elements(&mut self, precision: u32, count: usize) -> Vec<i16> {
+        let mut elements = self.any_elements(count);
+        if precision == 0 {
+            elements.iter_mut().for_each(|element| *element = i16::from(*element as i8));
+        }
+        elements
+    }
+
+    /// A valid layout: its lines and surfaces may have gaps after them, and its start may not be 0.
+    pub fn layout(&mut self, width: u32, height: u32, channels: u32, precision: u32) -> Layout {
+        let mut gap = || 32 * self.pick(&[0, 0, 0, 1, 2, 5]);
+        let line = 32 * width + gap();
+        let surface = (height - 1) * line + 32 * width + gap();
+        Layout { width, height, channels, precision, line, surface, start: gap() }
+    }
+
+    /// A valid layout of a few columns, rows and channels.
+    pub fn small_layout(&mut self) -> Layout {
+        let [width, height, channels, precision] = [self.among(1, 12), self.among(1, 4), self.among(1, 40), self.among(0, 2)];
+        self.layout(width, height, channels, precision)
+    }
+
+    /// Changes one to three words of a setting to limits, or to a little beside what they were.
+    pub fn damage<const N: usize>(&mut self, setting: &mut (impl Copy + Into<[u32; N]> + From<[u32; N]>)) {
+        let mut words: [u32; N] = (*setting).into();
+        for _ in 0..self.among(1, 3) {
+            let at = self.index(N);
+            words[at] = match self.below(4) {
+                0 => self.pick(&EDGES),
+                1 => words[at].wrapping_add(self.pick(&[1, 32, u32::MAX, u32::MAX - 31])),
+                2 => self.pick(&[0, 1, 2, 3]),
+                _ => self.pick(&[8192, 8193, 1 << 31, u32::MAX - 31, u32::MAX]),
+            };
+        }
+        *setting = words.into();
+    }
+
+    /// The exact length most often, else one that is short, longer or 0.
+    pub fn length_near(&mut self, exact: usize) -> usize {
+        match self.below(12) {
+            0 => exact.saturating_sub(1),
+            1 => exact + 1,
+            2 => 0,
+            3 => exact + 77,
+            4 => exact.saturating_sub(32),
+            5 => exact / 2,
+            _ => exact,
+        }
+    }
+
+    /// Puts numbers past the int8 range at one to three indices.
+    pub fn spoil(&mut self, elements: &mut [i16]) {
+        for _ in 0..self.among(1, 3) {
+            if elements.is_empty() {
+                return;
+            }
+            let at = match self.below(4) {
+                0 => 0,
+                1 => elements.len() - 1,
+                _ => self.index(elements.len()),
+            };
+            elements[at] = self.pick(&[128, -129, 255, 256, i16::MAX, i16::MIN]);
+        }
+    }
+
+    /// A box inside a cube of these sizes.
+    pub fn inner_box(&mut self, channels: u32, rows: u32, columns: u32) -> ElementBox {
+        let [mut first, mut count] = [[0; 3]; 2];
+        for (at, size) in [channels, rows, columns].into_iter().enumerate() {
+            first[at] = self.among(0, size - 1);
+            count[at] = self.among(1, size - first[at]);
+        }
+        let ([channel, row, column], [channels, rows, columns]) = (first, count);
+        ElementBox { channel, row, column, channels, rows, columns }
+    }
+}
+
+/// How long a buffer a cube needs: start plus extent. The layout is valid.
+pub fn buffer_length(layout: Layout) -> usize {
+    let extent = reference::cube::extent(layout).expect("a valid layout");
+    layout.start as usize + extent as usize
+}
+
+/// How many elements a cube has.
+pub fn element_count(layout: Layout) -> usize {
+    [layout.width, layout.height, layout.channels].iter().map(|&size| size as usize).product()
+}
+
+/// How many elements a box has, of a box in which that is a small number.
+pub fn box_count(part: ElementBox) -> usize {
+    let sizes = [part.channels, part.rows, part.columns];
+    sizes.iter().fold(1usize, |count, &size| count.saturating_mul(size as usize))
+}
+
+/// The box of all elements.
+pub fn whole(layout: Layout) -> ElementBox {
+    [0, 0, 0, layout.channels, layout.height, layout.width].into()
+}

@@ -1,0 +1,431 @@
+//! The two-table lookup, in both modes of X, and the camera curve.
+
+use crate::both::{same, Tally};
+use crate::draw::{Generator, EDGES};
+use crate::reference;
+use olsketina::{camera, Choice, Counters, Lookup, Mode, Slope, TableSettings};
+
+const MODES: [Mode; 2] = [Mode::Linear, Mode::Exponential];
+
+/// What a run is given beside its settings.
+struct Given {
+    xs: Vec<i16>,
+    ys: Vec<i16>,
+    samples: Vec<i32>,
+    outputs: Vec<i32>,
+    counters: Counters,
+}
+
+struct Tallies {
+    linear: Tally,
+    exponential: Tally,
+    /// How many samples of each kind the accepted runs had.
+    kinds: [u64; 5],
+}
+
+impl Tallies {
+    fn new() -> Tallies {
+        let [linear, exponential] = ["lut_run_linear", "lut_run_exponential"].map(Tally::new);
+        Tallies { linear, exponential, kinds: [0; 5] }
+    }
+
+    fn run(&mut self, lookup: Lookup, given: &Given) {
+        let tally = match lookup.mode {
+            Mode::Linear => &mut self.linear,
+            Mode::Exponential => &mut self.exponential,
+        };
+        let Given { xs, ys, samples, outputs, counters } = given;
+        let [mut ours, mut theirs] = [*counters; 2];
+        let case = format_args!("{lookup:?} X {xs:?} Y {ys:?} samples {samples:?} outputs {} {counters:?}", outputs.len());
+        let library = |outputs: &mut [i32]| lookup.run(xs, ys, samples, outputs, &mut ours);
+        let plain = |outputs: &mut [i32]| reference::lookup::run(&lookup, xs, ys, samples, outputs, &mut theirs);
+        tally.lend(outputs, case, library, plain);
+        same("counters", &ours, &theirs, case);
+        for (kind, total) in self.kinds.iter_mut().enumerate() {
+            *total += u64::from(ours[kind] - counters[kind]);
+        }
+    }
+
+    fn expect(self, refusals: &[u32]) {
+        self.linear.expect(refusals);
+        self.exponential.expect(refusals);
+        println!("samples by kind: {:?}", self.kinds);
+        assert!(self.kinds.iter().all(|&samples| samples > 0));
+    }
+}
+
+/// start + last · 2^select.
+fn end(start: i32, last: i64, select: i32) -> i64 {
+    i64::from(start) + if select < 0 { last >> -select } else { last << select }
+}
+
+fn held(number: i64) -> i32 {
+    number.clamp(i32::MIN.into(), i32::MAX.into()) as i32
+}
+
+/// A start from which a table of this length ends within 32 bits.
+fn start(g: &mut Generator, last: i64, select: i32) -> i32 {
+    let greatest = i64::from(i32::MAX) - end(0, last, select);
+    match g.below(6) {
+        0 => i32::MIN,
+        1 => greatest as i32,
+        2 => held(g.between(-300, 300)).min(greatest as i32),
+        3 => held(-end(0, last, select) / 2).min(greatest as i32),
+        _ => g.between(i32::MIN.into(), greatest) as i32,
+    }
+}
+
+fn slope(g: &mut Generator) -> Slope {
+    let scale = match g.below(3) {
+        0 => g.pick(&[i16::MIN, -1, 0, 1, i16::MAX]),
+        _ => g.word() as i16,
+    };
+    Slope { scale, shift: g.between(-16, 15) as i32 }
+}
+
+/// Valid settings.
+fn settings(g: &mut Generator, mode: Mode) -> Lookup {
+    let (select, x_start, x_end) = match mode {
+        Mode::Linear => {
+            let select = g.between(-6, 25) as i32;
+            let start = start(g, 64, select);
+            (select, start, end(start, 64, select) as i32)
+        }
+        Mode::Exponential => {
+            let offset = g.between(-32, 31) as i32;
+            let start = match g.below(4) {
+                0 => g.pick(&[i32::MIN, -1, 0, 1, i32::MAX - 1, i32::MAX]),
+                1 => held(g.between(-300, 300)),
+                _ => g.word() as i32,
+            };
+            (offset, start, i32::MAX)
+        }
+    };
+    let x = TableSettings { select, start: x_start, end: x_end, below: slope(g), above: slope(g) };
+    let select = g.between(-8, 23) as i32;
+    let mut y_start = start(g, 256, select);
+    if g.one_in(2) {
+        // Beside the X table, so that both hit now and then.
+        let greatest = i64::from(i32::MAX) - end(0, 256, select);
+        y_start = held((i64::from(x_start) + g.between(-70, 70)).min(greatest));
+    }
+    let y_end = end(y_start, 256, select) as i32;
+    let y = TableSettings { select, start: y_start, end: y_end, below: slope(g), above: slope(g) };
+    let [priority, overflow, underflow] = [g.one_in(2), g.one_in(2), g.one_in(2)];
+    Lookup { mode, x, y, priority, overflow, underflow }
+}
+
+/// The four slopes: X below, X above, Y below, Y above.
+fn slopes(lookup: &mut Lookup) -> [&mut Slope; 4] {
+    let Lookup { x, y, .. } = lookup;
+    [&mut x.below, &mut x.above, &mut y.below, &mut y.above]
+}
+
+fn entries(g: &mut Generator, count: usize) -> Vec<i16> {
+    match g.below(5) {
+        0 => (0..count).map(|_| g.pick(&[i16::MIN, i16::MAX])).collect(),
+        1 => (0..count).map(|i| 10 * i as i16).collect(),
+        2 => vec![g.word() as i16; count],
+        _ => g.any_elements(count),
+    }
+}
+
+/// Samples at and beside the ends of both tables, at powers of two from them, at the 32-bit limits, and anywhere.
+fn samples(g: &mut Generator, lookup: &Lookup) -> Vec<i32> {
+    let mut samples = vec![i32::MIN, i32::MIN + 1, -1, 0, 1, i32::MAX - 1, i32::MAX];
+    let ends = [lookup.x.start, lookup.x.end, lookup.y.start, lookup.y.end].map(i64::from);
+    for base in ends {
+        samples.extend((-2..=2).map(|beside| held(base + beside)));
+        for k in 1..=31 {
+            let at = base + (1 << k);
+            samples.extend([at - 1, at, at + 1, base - (1 << k)].map(held));
+        }
+    }
+    for [low, high] in [[ends[0], ends[1]], [ends[2], ends[3]]] {
+        samples.extend((0..30).map(|_| g.between(low.min(high), low.max(high)) as i32));
+    }
+    samples.extend((0..30).map(|_| g.word() as i32));
+    samples
+}
+
+fn given(g: &mut Generator, lookup: &Lookup) -> Given {
+    let samples = samples(g, lookup);
+    Given {
+        xs: entries(g, 65),
+        ys: entries(g, 257),
+        outputs: vec![g.word() as i32; samples.len()],
+        samples,
+        counters: std::array::from_fn(|_| g.among(0, 1 << 20)),
+    }
+}
+
+#[test]
+fn accepted_runs() {
+    let mut g = Generator::new(80);
+    let mut tallies = Tallies::new();
+    for _ in 0..12000 {
+        for mode in MODES {
+            let lookup = settings(&mut g, mode);
+            let given = given(&mut g, &lookup);
+            tallies.run(lookup, &given);
+        }
+    }
+    tallies.expect(&[]);
+}
+
+/// Every select and offset from below its range to above it, with the right end and ends beside it.
+#[test]
+fn every_select_and_offset() {
+    let mut g = Generator::new(81);
+    let mut tallies = Tallies::new();
+    for mode in MODES {
+        let x = (-34..=34).map(|select| (true, select, (-6..=25).contains(&select)));
+        let y = (-10..=25).map(|select| (false, select, (-8..=23).contains(&select)));
+        for (of_x, select, valid) in x.chain(y) {
+            for beside in [0, 0, 0, 1, -1, i32::MIN] {
+                let mut lookup = settings(&mut g, mode);
+                let last = if of_x { 64 } else { 256 };
+                let start = if valid { start(&mut g, last, select) } else { g.word() as i32 };
+                let end = if of_x && mode == Mode::Exponential { i32::MAX } else { held(end(start, last, select)) };
+                let table = if of_x { &mut lookup.x } else { &mut lookup.y };
+                (table.select, table.start, table.end) = (select, start, end.wrapping_add(beside));
+                let given = given(&mut g, &lookup);
+                tallies.run(lookup, &given);
+            }
+        }
+    }
+    tallies.expect(&[12, 13, 14, 15]);
+}
+
+/// A table whose end would be past 32 bits has no end that is taken.
+#[test]
+fn ends_past_the_range() {
+    let mut g = Generator::new(82);
+    let mut tallies = Tallies::new();
+    let x = (-6..=25).map(|select| (Mode::Linear, 64, select));
+    let y = MODES.into_iter().flat_map(|mode| (-8..=23).map(move |select| (mode, 256, select)));
+    for (mode, last, select) in x.chain(y) {
+        for past in [-1, 0, 1, 2] {
+            let start = (i64::from(i32::MAX) - end(0, last, select) + past) as i32;
+            let mut lookup = settings(&mut g, mode);
+            let table = if last == 64 { &mut lookup.x } else { &mut lookup.y };
+            (table.select, table.start, table.end) = (select, start, end(start, last, select) as i32);
+            let given = given(&mut g, &lookup);
+            tallies.run(lookup, &given);
+        }
+    }
+    tallies.linear.expect(&[13, 15]);
+    tallies.exponential.expect(&[15]);
+}
+
+#[test]
+fn every_shift() {
+    let mut g = Generator::new(83);
+    let mut tallies = Tallies::new();
+    for mode in MODES {
+        for at in 0..4 {
+            for shift in (-17..=16).chain([i32::MIN, -32, -31, 31, 32, i32::MAX]) {
+                for scale in [i16::MIN, -3, -1, 0, 1, 3, i16::MAX] {
+                    let mut lookup = settings(&mut g, mode);
+                    *slopes(&mut lookup)[at] = Slope { scale, shift };
+                    let given = given(&mut g, &lookup);
+                    tallies.run(lookup, &given);
+                }
+            }
+        }
+    }
+    tallies.expect(&[16]);
+}
+
+/// The longest slopes: a table at one end of the samples' range, and samples at the other.
+#[test]
+fn longest_slopes() {
+    let mut g = Generator::new(84);
+    let mut tallies = Tallies::new();
+    for scale in [i16::MIN, i16::MIN + 1, -1, 1, i16::MAX] {
+        for shift in [-16, -15, -1, 0, 1, 15] {
+            for entry in [i16::MIN, 0, i16::MAX] {
+                for start in [i32::MIN, i32::MAX - 1] {
+                    for bit in [false, true] {
+                        let slope = Slope { scale, shift };
+                        let table = |select| TableSettings { select, start, end: start + 1, below: slope, above: slope };
+                        let (mode, x, y) = (Mode::Linear, table(-6), table(-8));
+                        let linear = Lookup { mode, x, y, priority: bit, overflow: bit, underflow: bit };
+                        let mut given = given(&mut g, &linear);
+                        (given.xs, given.ys) = (vec![entry; 65], vec![entry; 257]);
+                        tallies.run(linear, &given);
+                        let x = TableSettings { select: 31, start: i32::MAX, end: i32::MAX, ..x };
+                        tallies.run(Lookup { mode: Mode::Exponential, x, ..linear }, &given);
+                    }
+                }
+            }
+        }
+    }
+    tallies.linear.expect(&[]);
+    tallies.exponential.expect(&[]);
+}
+
+/// Settings, table lengths, output lengths and counters right and wrong in every mixture.
+#[test]
+fn refusals_and_their_order() {
+    let mut g = Generator::new(85);
+    let mut tallies = Tallies::new();
+    let [low, high] = [i32::MIN, i32::MAX];
+    for round in 0..60000 {
+        let mut lookup = settings(&mut g, MODES[round % 2]);
+        let mut given = given(&mut g, &lookup);
+        given.samples.truncate(g.index(12));
+        given.outputs.truncate(given.samples.len());
+        for _ in 0..g.below(4) {
+            let [x_count, y_count] = [g.pick(&[0, 1, 64, 66, 257]), g.pick(&[0, 65, 256, 258])];
+            let count = given.samples.len();
+            match g.below(9) {
+                0 => given.xs = entries(&mut g, x_count),
+                1 => given.ys = entries(&mut g, y_count),
+                2 => lookup.x.select = g.pick(&[-33, -32, -7, -6, 25, 26, 31, 32, low, high]),
+                3 => lookup.x.end = lookup.x.end.wrapping_add(g.pick(&[1, -1, 64])),
+                4 => lookup.y.select = g.pick(&[-9, -8, 23, 24, 25, low, high]),
+                5 => lookup.y.end = lookup.y.end.wrapping_add(g.pick(&[1, -1, 256])),
+                6 => slopes(&mut lookup)[g.index(4)].shift = g.pick(&[-17, 16, 32, -32, low, high]),
+                7 => given.outputs = vec![3; g.pick(&[0, count + 1, count.saturating_sub(1)])],
+                _ => given.counters[g.index(5)] = g.pick(&[u32::MAX, u32::MAX - 5, 1 << 31]),
+            }
+        }
+        tallies.run(lookup, &given);
+    }
+    tallies.expect(&[11, 12, 13, 14, 15, 16, 17, 18]);
+}
+
+/// The five counters and the new samples up to 4294967295, and past it; also with no samples.
+#[test]
+fn counters_at_the_limit() {
+    let mut g = Generator::new(86);
+    let mut tallies = Tallies::new();
+    for round in 0..6000 {
+        let lookup = settings(&mut g, MODES[round % 2]);
+        let mut given = given(&mut g, &lookup);
+        let count = g.pick(&[0, 0, 1, 2, 7, 100]);
+        given.samples.rotate_left(g.index(300));
+        given.samples.truncate(count);
+        given.outputs.truncate(count);
+        let sum = i64::from(u32::MAX) - count as i64 + g.between(-1, 1);
+        let mut left = sum.min(u32::MAX.into()) as u32;
+        let mut over = (sum - i64::from(left)) as u32;
+        for counter in &mut given.counters {
+            *counter = if g.one_in(3) { left } else { g.among(0, left) };
+            left -= *counter;
+        }
+        given.counters[0] += left;
+        for counter in &mut given.counters {
+            if over > 0 && *counter < u32::MAX {
+                *counter += over;
+                over = 0;
+            }
+        }
+        tallies.run(lookup, &given);
+    }
+    let lookup = settings(&mut g, Mode::Linear);
+    let mut given = given(&mut g, &lookup);
+    given.samples.clear();
+    given.outputs.clear();
+    for one in EDGES {
+        for other in EDGES {
+            given.counters = [one, 0, other, 0, 0];
+            tallies.run(lookup, &given);
+        }
+    }
+    given.counters = [u32::MAX; 5];
+    tallies.run(lookup, &given);
+    tallies.expect(&[17]);
+}
+
+fn table(select: i32, start: i32, end: i32, [below, above]: [(i16, i32); 2]) -> TableSettings {
+    let [below, above] = [below, above].map(|(scale, shift)| Slope { scale, shift });
+    TableSettings { select, start, end, below, above }
+}
+
+/// Each priority bit for each kind of sample.
+#[test]
+fn priorities() {
+    let mut g = Generator::new(87);
+    let mut tallies = Tallies::new();
+    for bits in 0..8 {
+        for mode in MODES {
+            // X from 0 to 64, Y from −500 to −244 or from 32 to 288: every pair of sides but X above with Y below, then that too.
+            for y_start in [-500, 32, 500] {
+                let x_end = if mode == Mode::Linear { 64 } else { i32::MAX };
+                let [priority, overflow, underflow] = [1, 2, 4].map(|bit| bits & bit != 0);
+                let x = table(0, 0, x_end, [(3, 0), (5, 1)]);
+                let y = table(0, y_start, y_start + 256, [(7, -1), (11, 2)]);
+                let lookup = Lookup { mode, x, y, priority, overflow, underflow };
+                let mut given = given(&mut g, &lookup);
+                given.samples = (-600..900).step_by(7).collect();
+                given.outputs = vec![0; given.samples.len()];
+                tallies.run(lookup, &given);
+            }
+        }
+    }
+    tallies.expect(&[]);
+}
+
+/// Every sample around a short exponential table, for every offset.
+#[test]
+fn exponential_samples_one_by_one() {
+    let mut g = Generator::new(88);
+    let mut tallies = Tallies::new();
+    for offset in -32..=31 {
+        for start in [0, -100, i32::MIN, i32::MAX - 700] {
+            let x = table(offset, start, i32::MAX, [(-3, 1), (5, 0)]);
+            let y = table(-8, -5000, -4999, [(7, 0), (11, 0)]);
+            let (mode, no) = (Mode::Exponential, false);
+            let lookup = Lookup { mode, x, y, priority: no, overflow: no, underflow: no };
+            let mut given = given(&mut g, &lookup);
+            given.samples = (-10..690).map(|d| start.saturating_add(d)).collect();
+            given.outputs = vec![0; given.samples.len()];
+            tallies.run(lookup, &given);
+        }
+    }
+    tallies.exponential.expect(&[]);
+}
+
+#[test]
+fn every_entry_of_the_curve() {
+    let [x, y] = [camera::x_table().to_vec(), camera::y_table().to_vec()];
+    same("X", &x, &(0..65).map(reference::camera::x_entry).collect::<Vec<i16>>(), format_args!("table"));
+    same("Y", &y, &(0..257).map(reference::camera::y_entry).collect::<Vec<i16>>(), format_args!("table"));
+    for i in (0..400).chain(EDGES) {
+        assert_eq!(camera::y_entry(i), reference::camera::y_entry(i), "Y {i}");
+        assert_eq!(camera::x_entry(i), reference::camera::x_entry(i), "X {i}");
+    }
+    for (i, entry) in y.into_iter().enumerate() {
+        let (entry, square) = (i64::from(entry), i as i64 * 1048576);
+        assert!(entry * entry <= square && (entry + 1) * (entry + 1) > square);
+    }
+    println!("camera entries: {} cases", 2 * (400 + EDGES.len()) + 257 + 65);
+}
+
+/// Every select from below the range to above it, each bit named X, named Y or not named; then the settings at work.
+#[test]
+fn ready_made_settings() {
+    let mut g = Generator::new(90);
+    let mut made = Tally::new("camera_ready_made");
+    let mut runs = Tallies::new();
+    let words = [0, 1, 2, 1 << 31, u32::MAX];
+    for select in (-3..=26).chain([i32::MIN, i32::MIN + 2, -22, 32, 34, i32::MAX]) {
+        for choice in 0..125 {
+            let choices = [1, 5, 25].map(|part| Choice(words[choice / part % 5]));
+            let plain = reference::camera::ready_made(select, choices);
+            let case = format_args!("{select} {choices:?}");
+            let Ok(lookup) = made.compare(Lookup::ready_made(select, choices), plain, case) else { continue };
+            let mut samples = vec![i32::MIN, -1, 0, 1, i32::MAX];
+            for end in [lookup.x.end, lookup.y.end] {
+                samples.extend([end - 1, end, end.saturating_add(1)]);
+            }
+            samples.extend((0..30).map(|_| g.between(0, lookup.y.end.into()) as i32));
+            let [xs, ys] = [camera::x_table().to_vec(), camera::y_table().to_vec()];
+            runs.run(lookup, &Given { xs, ys, outputs: vec![7; samples.len()], samples, counters: [1; 5] });
+        }
+    }
+    made.expect(&[14]);
+    runs.linear.expect(&[]);
+}

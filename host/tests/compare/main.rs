@@ -1,0 +1,17 @@
+//! Compares every call with the independent implementation in reference/: answers, values and the final contents of everything lent. Seeds are
+//! fixed, so every case can be repeated. With --nocapture each test prints how many cases it compared, by answer; those that are ignored (the
+//! long ones) run with --include-ignored.
+
+mod both;
+mod draw;
+mod reference;
+
+mod conversion;
+mod cubes;
+mod lookup;
+mod pixels;
+mod plain_picture;
+mod regions;
+mod sheets;
+mod weights;
+mod worked;

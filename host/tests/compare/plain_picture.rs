@@ -1,0 +1,154 @@
+//! The program beside a plain picture: a raw tensor and sixteen slots, fed the same calls, never the packed bytes. After every call the answers
+//! agree, and the buffer is the raw tensor packed over the bytes from before.
+
+use crate::both::{same, Tally};
+use crate::draw::{box_count, buffer_length, element_count, Generator};
+use crate::reference;
+use olsketina::{Answer, ElementBox, Layout, Refusal, Region, Table};
+
+/// The plain picture. Its layout is valid.
+struct Picture {
+    layout: Layout,
+    length: usize,
+    elements: Vec<i16>,
+    slots: [Option<Region>; 16],
+}
+
+fn refuse<T>(number: u32) -> Answer<T> {
+    Err(Refusal { number, fault: 0 })
+}
+
+/// The positions of a region, or of any span of columns and rows.
+fn covers(region: Region, x: u64, y: u64) -> bool {
+    let [left, top, across, down] = <[u32; 4]>::from(region).map(u64::from);
+    (left..left + across).contains(&x) && (top..top + down).contains(&y)
+}
+
+impl Picture {
+    fn place(&mut self, slot: u32, region: Region) -> Answer<()> {
+        let [column, row, columns, rows] = <[u32; 4]>::from(region).map(u64::from);
+        let [width, height] = [self.layout.width, self.layout.height].map(u64::from);
+        if slot > 15 || self.slots[slot as usize].is_some() {
+            return refuse(8);
+        }
+        if columns == 0 || rows == 0 || column + columns > width || row + rows > height {
+            return refuse(9);
+        }
+        for y in row..row + rows {
+            for x in column..column + columns {
+                if self.slots.iter().flatten().any(|&other| covers(other, x, y)) {
+                    return refuse(10);
+                }
+            }
+        }
+        self.slots[slot as usize] = Some(region);
+        Ok(())
+    }
+
+    /// The raw indices of a box's elements, in raw order over the box.
+    fn indices(&self, slot: u32, part: ElementBox, given: usize) -> Answer<Vec<usize>> {
+        let Some(&Some(region)) = self.slots.get(slot as usize) else { return refuse(8) };
+        let [left, top, across, down] = <[u32; 4]>::from(region).map(u64::from);
+        let [channel, row, column, channels, rows, columns] = <[u32; 6]>::from(part).map(u64::from);
+        let [width, height, depth, ..] = <[u32; 7]>::from(self.layout).map(u64::from);
+        let empty = channels == 0 || rows == 0 || columns == 0;
+        if empty || channel + channels > depth || row + rows > down || column + columns > across {
+            return refuse(9);
+        }
+        if given as u64 != channels * rows * columns {
+            return refuse(6);
+        }
+        if self.length < buffer_length(self.layout) {
+            return refuse(5);
+        }
+        let mut indices = Vec::with_capacity(given);
+        for c in channel..channel + channels {
+            for h in top + row..top + row + rows {
+                for w in left + column..left + column + columns {
+                    indices.push(((c * height + h) * width + w) as usize);
+                }
+            }
+        }
+        Ok(indices)
+    }
+
+    fn edit(&mut self, slot: u32, part: ElementBox, elements: &[i16]) -> Answer<()> {
+        let indices = self.indices(slot, part, elements.len())?;
+        let outside = elements.iter().position(|element| !(-128..=127).contains(element));
+        if let (0, Some(fault)) = (self.layout.precision, outside) {
+            return Err(Refusal { number: 7, fault });
+        }
+        for (&index, &element) in indices.iter().zip(elements) {
+            self.elements[index] = element;
+        }
+        Ok(())
+    }
+
+    fn read(&self, slot: u32, part: ElementBox, elements: &mut [i16]) -> Answer<()> {
+        let indices = self.indices(slot, part, elements.len())?;
+        for (&index, element) in indices.iter().zip(elements) {
+            *element = self.elements[index];
+        }
+        Ok(())
+    }
+}
+
+#[test]
+fn every_call_agrees_with_the_plain_picture() {
+    let mut g = Generator::new(30);
+    let mut placings = Tally::new("place beside the plain picture");
+    let mut edits = Tally::new("edit beside the plain picture");
+    let mut reads = Tally::new("read beside the plain picture");
+    for round in 0..1500 {
+        let [width, height, channels, precision] = [g.among(1, 40), g.among(1, 5), g.among(1, 70), g.among(0, 2)];
+        let layout = g.layout(width, height, channels, precision);
+        let longer = g.pick(&[0, 1, 40]);
+        let before = g.bytes(buffer_length(layout) + longer);
+        let elements = g.elements(precision, element_count(layout));
+        let mut buffer = before.clone();
+        assert_eq!(layout.pack(&elements, &mut buffer), Ok(()));
+        let mut table = Table::empty(layout);
+        let mut picture = Picture { layout, length: buffer.len(), elements, slots: [None; 16] };
+        for call in 0..40 {
+            let case = format_args!("round {round} call {call} {layout:?}");
+            // A buffer one byte short refuses edits and reads, and nothing else.
+            let lent = if g.one_in(20) { buffer_length(layout) - 1 } else { buffer.len() };
+            picture.length = lent;
+            let kind = g.below(3);
+            let mut slot = g.pick(&[0, 1, 2, 3, 4, 5, 14, 15, 16, u32::MAX]);
+            let placed: Vec<u32> = (0..16).filter(|&slot| picture.slots[slot as usize].is_some()).collect();
+            if kind > 0 && !placed.is_empty() && !g.one_in(6) {
+                slot = g.pick(&placed);
+            }
+            let mut part = match picture.slots.get(slot as usize) {
+                Some(&Some(region)) => g.inner_box(channels, region.rows, region.columns),
+                _ => g.inner_box(channels, height, width),
+            };
+            if g.one_in(10) {
+                g.damage::<6>(&mut part);
+            }
+            let count = box_count(part).min(30000);
+            let given = if g.one_in(10) { count + 1 } else { count };
+            if kind == 0 {
+                let region = [part.column, part.row, part.columns, part.rows].into();
+                let _ = placings.compare(table.place(slot, region), picture.place(slot, region), case);
+            } else if kind == 1 {
+                let mut elements = g.elements(precision, given);
+                if g.one_in(10) {
+                    g.spoil(&mut elements);
+                }
+                let answer = table.edit(slot, part, &elements, &mut buffer[..lent]);
+                let _ = edits.compare(answer, picture.edit(slot, part, &elements), case);
+            } else {
+                let library = |elements: &mut [i16]| table.read(slot, part, &buffer[..lent], elements);
+                reads.lend(&g.any_elements(given), case, library, |elements| picture.read(slot, part, elements));
+            }
+            let mut packed = before.clone();
+            assert_eq!(reference::cube::pack(layout, &picture.elements, &mut packed), Ok(()));
+            same("buffer", &buffer, &packed, case);
+        }
+    }
+    placings.expect(&[8, 9, 10]);
+    edits.expect(&[5, 6, 7, 8, 9]);
+    reads.expect(&[5, 6, 8, 9]);
+}

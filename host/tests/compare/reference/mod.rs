@@ -1,0 +1,23 @@
+//! An independent implementation of every call, written from the scope paper's formulas one element at a time. Numbers are i128, so that no sum
+//! or product wraps. Of the library it has the types of settings and answers alone.
+
+pub mod camera;
+pub mod convert;
+pub mod cube;
+pub mod elements;
+pub mod lookup;
+pub mod pixels;
+pub mod regions;
+pub mod sheet;
+pub mod weights;
+
+use olsketina::{Answer, Refusal};
+
+/// Refuses with `number` unless the rule holds.
+pub fn require(rule: bool, number: u32) -> Answer<()> {
+    if rule {
+        Ok(())
+    } else {
+        Err(Refusal { number, fault: 0 })
+    }
+}

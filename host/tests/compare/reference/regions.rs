@@ -1,0 +1,111 @@
+//! Regions (the paper's stalls) of one cube in a table of sixteen slots (its desk). A table of any words is taken.
+
+use super::cube::{checked, Cube};
+use super::elements::{check_count, check_values, read as read_element, write};
+use super::require;
+use olsketina::{Answer, ElementBox, Layout, Refusal, Region, Table};
+
+/// First column and row, columns, rows.
+fn numbers(region: Region) -> [i128; 4] {
+    <[u32; 4]>::from(region).map(i128::from)
+}
+
+/// Whether there is something from `first` on, all of it below `size`.
+fn span_inside(first: i128, count: i128, size: i128) -> bool {
+    count >= 1 && first + count <= size
+}
+
+fn inside(region: Region, cube: &Cube) -> bool {
+    let [column, row, columns, rows] = numbers(region);
+    span_inside(column, columns, cube.width) && span_inside(row, rows, cube.height)
+}
+
+/// Whether some (column, row) is in both.
+fn overlap(one: Region, other: Region) -> bool {
+    let [left, top, columns, rows] = numbers(one);
+    let [other_left, other_top, other_columns, other_rows] = numbers(other);
+    left.max(other_left) < (left + columns).min(other_left + other_columns) && top.max(other_top) < (top + rows).min(other_top + other_rows)
+}
+
+/// The layout of a table, and its regions slot by slot.
+fn parts(table: &Table) -> (Layout, [Option<Region>; 16]) {
+    let words = table.words();
+    let layout: [u32; 7] = std::array::from_fn(|at| words[at]);
+    let regions = std::array::from_fn(|slot| {
+        let word = |at: usize| words[7 + 5 * slot + at];
+        (word(0) != 0).then(|| [word(1), word(2), word(3), word(4)].into())
+    });
+    (layout.into(), regions)
+}
+
+/// A box of one cube: its first element and its sizes, by channel, row and column.
+pub struct InCube {
+    pub cube: Cube,
+    pub first: [i128; 3],
+    pub sizes: [i128; 3],
+}
+
+/// The cube, and the box counted from the cube's corner, once 1 to 4, 8 and 9 are checked.
+fn named(table: &Table, slot: u32, part: ElementBox) -> Answer<InCube> {
+    let (layout, regions) = parts(table);
+    let cube = checked(layout)?;
+    let region = regions.get(slot as usize).copied().flatten();
+    require(region.is_some(), Refusal::SLOT)?;
+    let region = region.unwrap_or_default();
+    require(inside(region, &cube), Refusal::BOUNDS)?;
+    let [left, top, across, down] = numbers(region);
+    let [channel, row, column, channels, rows, columns] = <[u32; 6]>::from(part).map(i128::from);
+    let within = span_inside(channel, channels, cube.channels) && span_inside(row, rows, down) && span_inside(column, columns, across);
+    require(within, Refusal::BOUNDS)?;
+    Ok(InCube { cube, first: [channel, top + row, left + column], sizes: [channels, rows, columns] })
+}
+
+/// The same, then 6 and 5: of a call that lends so many elements and bytes.
+pub fn admitted(table: &Table, slot: u32, part: ElementBox, elements: usize, bytes: usize) -> Answer<InCube> {
+    let named = named(table, slot, part)?;
+    check_count(elements, named.sizes.iter().product())?;
+    named.cube.check_length(bytes)?;
+    Ok(named)
+}
+
+pub fn empty(layout: Layout) -> Table {
+    let mut words = [0; 87];
+    words[..7].copy_from_slice(&<[u32; 7]>::from(layout));
+    Table::from_words(words)
+}
+
+pub fn place(table: &mut Table, slot: u32, region: Region) -> Answer<()> {
+    let (layout, regions) = parts(table);
+    let cube = checked(layout)?;
+    require(slot < 16 && regions[slot as usize].is_none(), Refusal::SLOT)?;
+    require(inside(region, &cube), Refusal::BOUNDS)?;
+    require(!regions.into_iter().flatten().any(|other| overlap(other, region)), Refusal::OVERLAP)?;
+    let mut words = *table.words();
+    let at = 7 + 5 * slot as usize;
+    words[at] = 1;
+    words[at + 1..at + 5].copy_from_slice(&<[u32; 4]>::from(region));
+    *table = Table::from_words(words);
+    Ok(())
+}
+
+pub fn edit(table: &Table, slot: u32, part: ElementBox, elements: &[i16], buffer: &mut [u8]) -> Answer<()> {
+    let InCube { cube, first, sizes } = admitted(table, slot, part, elements.len(), buffer.len())?;
+    check_values(cube.precision as u32, elements)?;
+    for (&element, at) in elements.iter().zip(cube.positions(first, sizes)) {
+        write(cube.precision, element, buffer, at);
+    }
+    Ok(())
+}
+
+pub fn read(table: &Table, slot: u32, part: ElementBox, buffer: &[u8], elements: &mut [i16]) -> Answer<()> {
+    let InCube { cube, first, sizes } = admitted(table, slot, part, elements.len(), buffer.len())?;
+    for (element, at) in elements.iter_mut().zip(cube.positions(first, sizes)) {
+        *element = read_element(cube.precision, buffer, at);
+    }
+    Ok(())
+}
+
+pub fn position(table: &Table, slot: u32, channel: u32, row: u32, column: u32) -> Answer<u64> {
+    let InCube { cube, first: [c, h, w], .. } = named(table, slot, [channel, row, column, 1, 1, 1].into())?;
+    Ok(cube.position(c, h, w) as u64)
+}

@@ -1,0 +1,403 @@
+//! Sheets: whole ones and parts of them, records of every kind, states of any words.
+
+use crate::both::{same, Tally};
+use crate::draw::{Generator, EDGES};
+use crate::reference;
+use olsketina::{Row, Sheet};
+
+/// A sheet in progress, alike on both sides after every part, and the counts of the answers of its lines.
+struct Session {
+    sheet: Sheet,
+    rows: Tally,
+    parts: u64,
+}
+
+impl Session {
+    fn new(name: &'static str) -> Session {
+        Session { sheet: reference::sheet::begin(), rows: Tally::new(name), parts: 0 }
+    }
+
+    fn begin(&mut self) {
+        self.sheet = Sheet::begin();
+        assert_eq!(self.sheet, reference::sheet::begin());
+    }
+
+    /// Makes a call on both sides; gives how much was read, and the row.
+    fn both(
+        &mut self, part: &[u8], library: impl FnOnce(&mut Sheet) -> (usize, Option<Row>),
+        plain: impl FnOnce(&mut Sheet) -> (usize, Option<Row>),
+    ) -> (usize, Option<Row>) {
+        let (before, mut theirs) = (self.sheet, self.sheet);
+        let shown = part.escape_ascii();
+        let case = format_args!("\"{shown}\" on {before:?}");
+        let given = library(&mut self.sheet);
+        same("bytes read, row", &[given], &[plain(&mut theirs)], case);
+        same("state", &self.sheet.state, &theirs.state, case);
+        same("text", &self.sheet.text, &theirs.text, case);
+        self.parts += 1;
+        if let Some(row) = given.1 {
+            self.rows.note(row.answer.map_or_else(|refusal| refusal.number, |_| 0));
+            same("row's text", &row.text(), &reference::sheet::text(&row), case);
+        }
+        given
+    }
+
+    fn feed(&mut self, part: &[u8]) -> (usize, Option<Row>) {
+        self.both(part, |sheet| sheet.feed(part), |sheet| reference::sheet::feed(sheet, part))
+    }
+
+    fn finish(&mut self) -> Option<Row> {
+        self.both(b"", |sheet| (0, sheet.finish()), |sheet| (0, reference::sheet::finish(sheet))).1
+    }
+
+    /// Feeds a part until it is read; adds the rows.
+    fn feed_all(&mut self, mut part: &[u8], rows: &mut Vec<Row>) {
+        while !part.is_empty() {
+            let (read, row) = self.feed(part);
+            rows.extend(row);
+            part = &part[read..];
+        }
+    }
+
+    /// A whole sheet in parts that end at these indices.
+    fn whole(&mut self, input: &[u8], cuts: &[usize]) -> Vec<Row> {
+        let mut rows = Vec::new();
+        self.begin();
+        let mut from = 0;
+        for &cut in cuts {
+            self.feed_all(&input[from..cut], &mut rows);
+            from = cut;
+        }
+        self.feed_all(&input[from..], &mut rows);
+        rows.extend(self.finish());
+        rows
+    }
+
+    /// A line on a sheet with the paper's frame and a stall; gives its answer.
+    fn line(&mut self, framed: &Sheet, line: &[u8]) -> u32 {
+        self.sheet = *framed;
+        let mut rows = Vec::new();
+        self.feed_all(&[line, b"\n"].concat(), &mut rows);
+        rows[0].answer.map_or_else(|refusal| refusal.number, |_| 0)
+    }
+
+    fn expect(self, refusals: &[u32]) {
+        println!("parts fed and sheets finished: {}", self.parts);
+        self.rows.expect(refusals);
+    }
+}
+
+/// The refusals that a line can get.
+const LINE_REFUSALS: [u32; 8] = [1, 2, 3, 4, 8, 9, 10, 24];
+
+const FRAME: &str = "frame\t3\t2\t40\t0\t128\t256\t0\n";
+
+/// A sheet that has read the paper's frame and a stall.
+fn framed() -> Sheet {
+    let mut session = Session::new("frame and stall");
+    session.feed_all(FRAME.as_bytes(), &mut Vec::new());
+    session.feed_all(b"stall\t1\t1\t0\t2\t1\n", &mut Vec::new());
+    session.sheet
+}
+
+fn joined(name: &str, numbers: &[u32]) -> Vec<u8> {
+    let fields: Vec<String> = numbers.iter().map(|number| format!("\t{number}")).collect();
+    format!("{name}{}", fields.concat()).into_bytes()
+}
+
+/// A readable record, whose numbers are right most often.
+fn good_line(g: &mut Generator) -> Vec<u8> {
+    match g.below(8) {
+        0 => {
+            let mut layout: [u32; 7] = g.small_layout().into();
+            if g.one_in(2) {
+                g.damage(&mut layout);
+            }
+            joined("frame", &layout)
+        }
+        1..=4 => {
+            let mut stall = [g.among(0, 4), g.among(0, 5), g.among(0, 2), g.among(1, 4), g.among(1, 2)];
+            if g.one_in(6) {
+                g.damage(&mut stall);
+            }
+            joined("stall", &stall)
+        }
+        _ => {
+            let mut cell = [g.among(0, 4), g.among(0, 20), g.among(0, 1), g.among(0, 2)];
+            if g.one_in(6) {
+                g.damage(&mut cell);
+            }
+            joined("cell", &cell)
+        }
+    }
+}
+
+/// A line of any kind, unreadable ones among them.
+fn any_line(g: &mut Generator) -> Vec<u8> {
+    let mut line = good_line(g);
+    if g.one_in(3) {
+        damage_line(g, &mut line);
+    }
+    line
+}
+
+fn damage_line(g: &mut Generator, line: &mut Vec<u8>) {
+    let at = g.index(line.len());
+    match g.below(14) {
+        0 => line.push(b'\t'),
+        1 => line.push(b'\r'),
+        2 => line.clear(),
+        3 => drop(line.remove(at)),
+        4 => line[at] = g.pick(b"\t 0a+-\r\0\xff/:"),
+        5 => line.insert(at, g.pick(b"\t 0a9+-\r\0\xff/:")),
+        6 => line.extend(b"\t0"),
+        7 => line.resize(g.between(119, 124) as usize, b'7'),
+        8 => line.resize(g.between(125, 400) as usize, b'\t'),
+        9 => {
+            let tab = line.iter().position(|&byte| byte == b'\t').unwrap_or(at);
+            line.insert((tab + 1).min(line.len()), b'0');
+        }
+        10 => {
+            while line.last().is_some_and(u8::is_ascii_digit) {
+                line.pop();
+            }
+        }
+        11 => line.insert(0, g.pick(b"\t fsc")),
+        12 => line[0] = line[0].to_ascii_uppercase(),
+        _ => line.extend(g.pick(&[&b"4294967296"[..], b"00", b"9", b"\t4294967295"])),
+    }
+}
+
+/// Lines that end in newlines; the last one may lack its own.
+fn any_sheet(g: &mut Generator, lines: u64) -> Vec<u8> {
+    let mut sheet = Vec::new();
+    if !g.one_in(4) {
+        let precision = g.among(0, 2);
+        sheet.extend(joined("frame", &<[u32; 7]>::from(g.layout(6, 3, 21, precision))));
+        sheet.push(b'\n');
+    }
+    for _ in 0..lines {
+        sheet.extend(any_line(g));
+        sheet.push(b'\n');
+    }
+    match g.below(4) {
+        0 => drop(sheet.pop()),
+        1 => sheet.push(b'\n'),
+        _ => {}
+    }
+    sheet
+}
+
+#[test]
+fn whole_sheets() {
+    let mut g = Generator::new(100);
+    let mut session = Session::new("lines of whole sheets");
+    for _ in 0..10000 {
+        let lines = g.below(40);
+        let input = any_sheet(&mut g, lines);
+        let rows = session.whole(&input, &[]);
+        // One row for each newline, and one for a last line without.
+        let newlines = input.iter().filter(|&&byte| byte == b'\n').count();
+        let unended = input.last().is_some_and(|&byte| byte != b'\n');
+        assert_eq!(rows.len(), newlines + usize::from(unended));
+        assert!(rows.iter().map(|row| row.line).eq(1..=rows.len() as u64));
+    }
+    session.expect(&LINE_REFUSALS);
+}
+
+/// Each cut in two gives the rows of the whole; so do single bytes and parts of any length.
+#[test]
+fn sheets_in_parts() {
+    let mut g = Generator::new(101);
+    let mut session = Session::new("lines of sheets in parts");
+    for _ in 0..200 {
+        let input = any_sheet(&mut g, 8);
+        let rows = session.whole(&input, &[]);
+        for cut in 0..=input.len() {
+            assert_eq!(session.whole(&input, &[cut]), rows);
+        }
+        let every: Vec<usize> = (0..input.len()).collect();
+        assert_eq!(session.whole(&input, &every), rows);
+        for _ in 0..20 {
+            let some: Vec<usize> = (0..input.len()).filter(|_| g.one_in(9)).collect();
+            assert_eq!(session.whole(&input, &some), rows);
+        }
+    }
+    session.expect(&LINE_REFUSALS);
+}
+
+/// Lines of every length around 120, of every filling byte, and very long ones; the next line is read as itself.
+#[test]
+fn long_lines() {
+    let mut session = Session::new("long lines");
+    for length in (0..=130).chain([240, 241, 1000, 70000]) {
+        for byte in [b'0', b'\t', b'x', 0, b'\r', 255] {
+            for start in [&b""[..], b"frame\t", b"cell\t0\t0\t0\t0"] {
+                let mut line = start.to_vec();
+                line.resize(start.len().max(length), byte);
+                let input = [FRAME.as_bytes(), &line, b"\nstall\t0\t0\t0\t2\t2\ncell\t0\t33\t1\t1"].concat();
+                let rows = session.whole(&input, &[]);
+                let cuts: Vec<usize> = (0..input.len()).step_by(50).collect();
+                assert_eq!(session.whole(&input, &cuts), rows);
+                assert_eq!((rows.len(), rows[3]), (4, Row { line: 4, answer: Ok(417) }));
+            }
+        }
+    }
+    session.expect(&[8, 24]);
+}
+
+/// The readings that the paper's words leave to a reader: the answers, line by line.
+#[test]
+fn readings() {
+    let mut session = Session::new("lines of the readings");
+    let mut answers = |input: &str| -> Vec<u32> {
+        let rows = session.whole(input.as_bytes(), &[]);
+        rows.iter().map(|row| row.answer.map_or_else(|refusal| refusal.number, |_| 0)).collect()
+    };
+    assert_eq!(answers(""), []);
+    assert_eq!(answers(FRAME), [0]);
+    assert_eq!(answers(&format!("{FRAME}\n")), [0, 24]);
+    assert_eq!(answers(&FRAME.replace('\n', "\r\n")), [24]);
+    assert_eq!(answers(&FRAME.replace('\n', "\t\n")), [24]);
+    assert_eq!(answers("stall\t16\t0\t0\t0\t0\n"), [1]);
+    assert_eq!(answers("stall\t16\t0\t0\t0\n"), [24]);
+    assert_eq!(answers("frame\t0\t2\t40\t0\t128\t256\t0\ncell\t0\t0\t0\t0"), [1, 1]);
+    let stall = format!("{FRAME}stall\t0\t0\t0\t2\t2\n");
+    let cells = "cell\t0\t33\t1\t1\ncell\t0\t40\t0\t0\ncell\t1\t0\t0\t0\nstall\t1\t0\t0\t0\t1\n";
+    assert_eq!(answers(&format!("{stall}frame\t3\t2\t40\t3\t128\t256\t0\n{cells}")), [0, 0, 2, 0, 9, 8, 9]);
+    assert_eq!(answers(&format!("{stall}{FRAME}cell\t0\t0\t0\t0\n")), [0, 0, 0, 8]);
+    let wide =
+        "frame\t1\t1\t8192\t1\t32\t4294967264\t4294967264\nframe\t8192\t8192\t8192\t0\t262144\t2147483648\t0\nstall\t0\t0\t0\t8192\t8192";
+    let values = session.whole(wide.as_bytes(), &[]).into_iter().map(|row| row.answer);
+    assert!(values.eq([2194728271936, 549755813888, 549755813888].map(Ok)));
+    session.expect(&[1, 2, 8, 9, 24]);
+}
+
+/// States of any words, with a part of a record as the line in progress.
+#[test]
+fn hand_made_states() {
+    let mut g = Generator::new(102);
+    let mut session = Session::new("lines on hand-made states");
+    for _ in 0..40000 {
+        let mut state: [u32; 91] = std::array::from_fn(|_| g.pick(&EDGES));
+        let mut text: [u8; 120] = std::array::from_fn(|_| g.word() as u8);
+        if !g.one_in(4) {
+            state[4..11].copy_from_slice(&<[u32; 7]>::from(g.layout(6, 3, 21, 0)));
+            for slot in state[11..].chunks_mut(5) {
+                let placed = g.pick(&[0, 0, 0, 0, 0, 1, 2, u32::MAX]);
+                slot.copy_from_slice(&[placed, g.among(0, 6), g.among(0, 3), g.among(0, 4), g.among(0, 2)]);
+            }
+        }
+        state[0] = g.pick(&[0, 1, u32::MAX - 1, u32::MAX]);
+        state[1] = g.pick(&[0, 1, u32::MAX]);
+        state[3] = g.pick(&[0, 1, 2, 1 << 31, u32::MAX]);
+        let line = any_line(&mut g);
+        let held = g.index(line.len() + 1).min(120);
+        let mut rest = line[held..].to_vec();
+        if g.one_in(8) {
+            state[2] = g.pick(&[0, 1, 119, 120, 121, 122, 5000, 1 << 31, u32::MAX - 1, u32::MAX]);
+            if g.one_in(2) {
+                rest.clear();
+            }
+        } else {
+            text[..held].copy_from_slice(&line[..held]);
+            state[2] = held as u32;
+        }
+        session.sheet = Sheet { state, text };
+        let mut rows = Vec::new();
+        match g.below(3) {
+            0 => rest.push(b'\n'),
+            1 => {
+                rest.push(b'\n');
+                rest.extend(any_line(&mut g));
+            }
+            _ => {}
+        }
+        session.feed_all(&rest, &mut rows);
+        if g.one_in(2) {
+            let _ = session.feed(b"");
+        }
+        let _ = (session.finish(), session.finish());
+    }
+    session.expect(&LINE_REFUSALS);
+}
+
+/// An accepted frame on a state of other words: the words that already say so stay, every slot is empty.
+#[test]
+fn words_that_stay() {
+    let mut session = Session::new("lines on words that stay");
+    let lines = [FRAME, "frame\t0\t2\t40\t0\t128\t256\t0\n", "stall\t15\t0\t0\t1\t1\n", "cell\t0\t0\t0\t0\n", "none\n", "part", ""];
+    for framed in [0, 1, 2, u32::MAX] {
+        for placed in [0, 1, 2, u32::MAX] {
+            for line in lines {
+                let mut state = [0; 91];
+                state[3] = framed;
+                state[4..11].copy_from_slice(&[3, 2, 40, 0, 128, 256, 0]);
+                for slot in state[11..].chunks_mut(5) {
+                    slot.copy_from_slice(&[placed, 1, 1, 1, 1]);
+                }
+                state[86] = 0;
+                session.sheet = Sheet { state, text: [b'y'; 120] };
+                let _ = (session.feed(line.as_bytes()), session.finish());
+            }
+        }
+    }
+    session.expect(&[1, 8, 24]);
+}
+
+/// Records good and damaged, each on a sheet of its own.
+#[test]
+fn records() {
+    let mut g = Generator::new(103);
+    let mut session = Session::new("records");
+    let framed = framed();
+    for _ in 0..200_000 {
+        let mut line = good_line(&mut g);
+        for _ in 0..g.below(3) {
+            if !line.is_empty() {
+                damage_line(&mut g, &mut line);
+            }
+        }
+        session.line(&framed, &line);
+    }
+    for _ in 0..50_000 {
+        let line: Vec<u8> = (0..g.below(140)).map(|_| g.pick(b"framestallcell\t\t\t0123456789\n")).collect();
+        session.line(&framed, &line);
+    }
+    session.expect(&LINE_REFUSALS);
+}
+
+/// Numbers at and past their limits, in every field of every record.
+#[test]
+fn numbers_in_every_field() {
+    let mut session = Session::new("numbers of records");
+    let framed = framed();
+    let numbers = "0 1 9 10 00 01 007 4294967295 4294967296 4294967299 4294967300 4300000000 5000000000 9999999999 04294967295 10000000000 \
+        42949672950 18446744073709551615 18446744073709551616 18446744073709551617 340282366920938463463374607431768211456 -1 +1 1.0 0x1 1e3 ٣";
+    let odd = ["", "1 ", " 1", "1\n", "\r"];
+    let good = [("frame", "3 2 40 0 128 256 0"), ("stall", "0 0 0 1 2"), ("cell", "1 33 0 1")];
+    for (name, good) in good {
+        let right: Vec<&str> = good.split(' ').collect();
+        for fields in 0..=right.len() + 2 {
+            for at in 0..fields {
+                for number in numbers.split(' ').chain(odd) {
+                    let field = |field| format!("\t{}", if field == at { number } else { right.get(field).unwrap_or(&"3") });
+                    let line: String = name.to_string() + &(0..fields).map(field).collect::<String>();
+                    session.line(&framed, line.as_bytes());
+                }
+            }
+            let bare = format!("{name}{}", "\t1".repeat(fields));
+            assert_eq!(session.line(&framed, bare.as_bytes()) != 24, fields == right.len(), "{bare:?}");
+        }
+    }
+    let names =
+        ["", "f", "fram", "framee", "Frame", "FRAME", "stalls", "stal", "cel", "cells", "cell ", " cell", "frame\0", "cell\r", "call"];
+    for name in names {
+        for count in 0..9 {
+            let line = format!("{name}{}", "\t1".repeat(count));
+            session.line(&framed, line.as_bytes());
+            session.line(&framed, format!("\t{line}").as_bytes());
+        }
+    }
+    session.expect(&LINE_REFUSALS);
+}

@@ -1,0 +1,117 @@
+//! The scope paper's worked cases and its sheet, through the library alone.
+
+use olsketina::{
+    camera, convert, header_text, Answer, Choice, Counters, Layout, Lookup, Mode, Refusal, Sheet, Slope, TableSettings, Weights,
+};
+
+fn refused<T>(number: u32) -> Answer<T> {
+    Err(Refusal { number, fault: 0 })
+}
+
+#[test]
+fn cubes() {
+    let frame = Layout::from([3, 2, 40, 0, 128, 256, 0]);
+    assert_eq!(frame.position(33, 1, 2), Ok(449));
+    assert_eq!(frame.pack(&[1; 240], &mut [0; 480]), Ok(()));
+    assert_eq!(frame.pack(&[1; 240], &mut [0; 479]), refused(5));
+    assert_eq!(frame.pack(&[], &mut []), refused(6));
+    assert_eq!(Layout { surface: 224, ..frame }.check(), Ok(()));
+    assert_eq!(Layout { surface: 192, ..frame }.check(), refused(3));
+
+    let mut buffer = [9; 32];
+    assert_eq!(Layout::from([1, 1, 1, 1, 32, 32, 0]).pack(&[-2], &mut buffer), Ok(()));
+    assert_eq!(buffer[..3], [0xfe, 0xff, 0]);
+    let extent = |channels| Layout::from([1, 1, channels, 1, 32, 32, 0]).extent();
+    assert_eq!([extent(16), extent(17)], [Ok(32), Ok(64)]);
+}
+
+#[test]
+fn weights() {
+    let at = |weights: Weights, index: usize, byte: usize| {
+        let count = weights.count().expect("accepted") as usize;
+        let mut elements = vec![0; count];
+        elements[index] = 1;
+        let mut buffer = vec![9; 512];
+        assert_eq!(weights.pack(&elements, &mut buffer), Ok(()));
+        assert_eq!(buffer.iter().position(|&written| written == 1), Some(byte));
+    };
+    let weights = Weights::from([3, 65, 1, 2, 0]);
+    assert_eq!((weights.count(), weights.extent()), (Ok(390), Ok(512)));
+    at(weights, (65 + 64) * 2 + 1, 388);
+    assert_eq!(weights.position(1, 64, 0, 1), Ok(388));
+    at(weights, (2 * 65 + 5) * 2, 133);
+    assert_eq!(weights.position(2, 5, 0, 0), Ok(133));
+    let mut buffer = [9; 513];
+    assert_eq!(weights.pack(&[1; 390], &mut buffer), Ok(()));
+    assert!(buffer[..390].iter().all(|&byte| byte == 1));
+    assert!(buffer[390..512].iter().all(|&byte| byte == 0));
+    assert_eq!(buffer[512], 9);
+    assert_eq!(weights.pack(&[1; 390], &mut buffer[..511]), refused(5));
+    at([17, 1, 1, 1, 1].into(), 16, 32);
+}
+
+/// One sample's answer, and the counters after it.
+fn look_up(lookup: &Lookup, xs: &[i16], sample: i32) -> (i32, Counters) {
+    let (mut outputs, mut counters) = ([0], [0; 5]);
+    assert_eq!(lookup.run(xs, &[0; 257], &[sample], &mut outputs, &mut counters), Ok(()));
+    (outputs[0], counters)
+}
+
+#[test]
+fn lookups() {
+    let tens: Vec<i16> = (0..65).map(|i| 10 * i).collect();
+    let slope = Slope { scale: 3, shift: 1 };
+    let x = TableSettings { select: 2, start: 0, end: 256, below: slope, above: slope };
+    // Y is one step wide and far off: it is above the samples' ends or below them with X, and X answers.
+    let y = TableSettings { select: -8, start: 200, end: 201, ..TableSettings::default() };
+    let linear = Lookup { mode: Mode::Linear, x, y, priority: false, overflow: false, underflow: false };
+    let answer = |xs: &[i16], sample| look_up(&linear, xs, sample).0;
+    assert_eq!([6, 258, -1, 256].map(|sample| answer(&tens, sample)), [15, 643, -2, 640]);
+    let mut bent = tens.clone();
+    bent[2] = 7;
+    assert_eq!(answer(&bent, 6), 8);
+
+    let y = TableSettings { select: -8, start: 1000, end: 1001, ..TableSettings::default() };
+    let answer = |select, sample| {
+        let x = TableSettings { select, end: i32::MAX, ..TableSettings::default() };
+        look_up(&Lookup { mode: Mode::Exponential, x, y, ..linear }, &tens, sample)
+    };
+    assert_eq!(answer(0, 6), (25, [1, 0, 0, 0, 0]));
+    assert_eq!(answer(0, 0).1, [0, 0, 1, 0, 0]);
+    assert_eq!(answer(3, 7).1, [0, 0, 1, 0, 0]);
+    assert_eq!(answer(3, 8), (0, [1, 0, 0, 0, 0]));
+}
+
+#[test]
+fn conversions() {
+    assert_eq!(convert(100, 128, 3, 2, 0), Ok(-21));
+    assert_eq!(convert(100, 128, 3, 2, 1), Ok(-21));
+    assert_eq!(convert(255, 0, 1, 0, 0), Ok(127));
+}
+
+#[test]
+fn curve() {
+    assert_eq!([camera::y_entry(2), camera::y_entry(255)], [1448, 16351]);
+    let lookup = Lookup::ready_made(4, [Choice::UNNAMED; 3]).expect("accepted");
+    let (mut outputs, mut counters) = ([0; 4], [0; 5]);
+    let samples = [256, 257, 4097, -1];
+    assert_eq!(lookup.run(&camera::x_table(), &camera::y_table(), &samples, &mut outputs, &mut counters), Ok(()));
+    assert_eq!((outputs, counters), ([4096, 4103, 4096, 0], [0, 1, 1, 1, 1]));
+    assert_eq!(Lookup::ready_made(23, [Choice::X; 3]), refused(14));
+}
+
+/// The paper's sheet: input and whole output.
+#[test]
+fn sheet() {
+    let input = "frame\t3\t2\t40\t0\t128\t256\t0\nstall\t0\t0\t0\t2\t2\nstall\t1\t1\t0\t2\t1\ncell\t0\t33\t1\t1\n";
+    let mut sheet = Sheet::begin();
+    let mut output = header_text();
+    let mut rest = input.as_bytes();
+    while !rest.is_empty() {
+        let (read, row) = sheet.feed(rest);
+        rest = &rest[read..];
+        output.extend(row.expect("a line ended").text());
+    }
+    assert_eq!(sheet.finish(), None);
+    assert_eq!(output, b"line\tanswer\tvalue\n1\t0\t480\n2\t0\t160\n3\t10\t0\n4\t0\t417\n");
+}

@@ -1,0 +1,296 @@
+//! The header against the Rattle sources: a C file of typed function pointers, made from the sources' own signatures, compiles with it as C11
+//! and C++17 without a warning; names, parameters' names and word counts are the same; and a wrong header fails.
+
+#[path = "../signatures.rs"]
+#[allow(dead_code)]
+mod signatures;
+
+use signatures::{Exports, Function, Parameter, Shape};
+use std::path::{Path, PathBuf};
+use std::process::Command;
+use std::{env, fs};
+
+fn repository() -> PathBuf {
+    Path::new(env!("CARGO_MANIFEST_DIR")).join("..")
+}
+
+fn exports() -> Vec<Exports> {
+    signatures::crates(&repository()).iter().map(|path| signatures::exports_of(path)).collect()
+}
+
+fn header() -> String {
+    fs::read_to_string(repository().join("include/olsketina.h")).expect("the header is there")
+}
+
+/// The C type of a number.
+fn c_number(number: &str) -> &str {
+    match number {
+        "u8" => "uint8_t",
+        "u16" => "uint16_t",
+        "u32" => "uint32_t",
+        "u64" => "uint64_t",
+        "usize" => "size_t",
+        "i8" => "int8_t",
+        "i16" => "int16_t",
+        "i32" => "int32_t",
+        "i64" => "int64_t",
+        "isize" => "ptrdiff_t",
+        "f32" => "float",
+        "f64" => "double",
+        "bool" => "bool",
+        other => panic!("no C type for {other}"),
+    }
+}
+
+/// The C parameters that a parameter passes as: name, type, and length where it is an array.
+fn c_parameters(parameter: &Parameter) -> Vec<(String, String, Option<&str>)> {
+    // `box` is a word of the language of the sources.
+    let name = if parameter.name == "b" { "box".to_string() } else { parameter.name.clone() };
+    let number = c_number(&parameter.number);
+    let lent = format!("{}{number} *", if parameter.mutable { "" } else { "const " });
+    match &parameter.shape {
+        Shape::Value => vec![(name, number.to_string(), None)],
+        Shape::One => vec![(name, lent, None)],
+        Shape::Array(length) => vec![(name, lent, Some(length))],
+        Shape::Slice => vec![(name.clone(), lent, None), (name + "_len", "size_t".to_string(), None)],
+    }
+}
+
+fn all_parameters(function: &Function) -> Vec<(String, String, Option<&str>)> {
+    function.parameters.iter().flat_map(c_parameters).collect()
+}
+
+/// An expression of the sources' constants, which the C file has under the names `SOURCE_..`.
+fn c_expression(text: &str) -> String {
+    let mut c = String::new();
+    for (at, letter) in text.char_indices() {
+        let before = text[..at].chars().next_back();
+        if letter.is_ascii_uppercase() && !before.is_some_and(|before| before.is_alphanumeric() || before == '_') {
+            c += "SOURCE_";
+        }
+        c.push(letter);
+    }
+    c
+}
+
+/// The C file of typed function pointers, constants and array lengths.
+fn c_file(exports: &[Exports], lengths: &[(String, String)]) -> String {
+    let mut text =
+        "#include \"olsketina.h\"\n#ifdef __cplusplus\n#define CHECK static_assert\n#else\n#define CHECK _Static_assert\n#endif\n"
+            .to_string();
+    for (name, value) in exports.iter().flat_map(|exports| &exports.constants) {
+        text += &format!(
+            "#undef SOURCE_{name}\n#define SOURCE_{name} ({})\nCHECK(SOURCE_{name} == OLSKETINA_{name}, \"{name}\");\n",
+            c_expression(value)
+        );
+    }
+    for function in exports.iter().flat_map(|exports| &exports.functions) {
+        let name = &function.name;
+        let types: Vec<String> = all_parameters(function).into_iter().map(|(_, kind, _)| kind).collect();
+        let result = function.result.as_deref().map_or("void", c_number);
+        let types = if types.is_empty() { "void".to_string() } else { types.join(", ") };
+        text += &format!("{result} (*check_{name})({types}) = {name};\n");
+    }
+    for (source, header) in lengths {
+        text += &format!("CHECK(({}) == ({header}), \"{header}\");\n", c_expression(source));
+    }
+    text
+}
+
+/// Runs a compiler on some text.
+fn compile(folder: &Path, compiler: &str, arguments: &[&str], text: &str) -> Result<Vec<u8>, String> {
+    let file = folder.join("check.c");
+    fs::write(&file, text).expect("written");
+    let output = Command::new(compiler).args(arguments).arg("-I").arg(folder).arg(file).output();
+    let output = output.map_err(|error| format!("{compiler}: {error}"))?;
+    if output.status.success() {
+        Ok(output.stdout)
+    } else {
+        Err(String::from_utf8_lossy(&output.stderr).into_owned())
+    }
+}
+
+/// The functions that a header declares (not those that it defines): names, with each parameter's name and length.
+fn declared(preprocessed: &str) -> Vec<(String, Vec<(String, Option<String>)>)> {
+    let mut text = String::new();
+    let mut depth = 0;
+    for letter in preprocessed.chars() {
+        match letter {
+            '{' => depth += 1,
+            '}' => {
+                depth -= 1;
+                text.push(';');
+            }
+            _ if depth == 0 => text.push(letter),
+            _ => {}
+        }
+    }
+    let mut functions = Vec::new();
+    for declaration in text.split(';').filter(|text| !text.contains("static uint32_t") && !text.trim_start().starts_with("static")) {
+        let Some((head, rest)) = declaration.find("olsketina_").map(|at| declaration.split_at(at)) else { continue };
+        let Some((name, parameters)) = rest.split_once('(') else { continue };
+        assert!(!head.contains("typedef"), "no type: {declaration}");
+        let parameters = parameters.trim_end().strip_suffix(')').expect("the parameters end");
+        let named = split(parameters).into_iter().filter(|parameter| parameter.trim() != "void").map(|parameter| {
+            let (before, length) = match parameter.split_once('[') {
+                Some((before, length)) => (before, Some(length.trim_end().trim_end_matches(']'))),
+                None => (parameter.as_str(), None),
+            };
+            let name = before.trim().rsplit(|letter: char| !letter.is_alphanumeric() && letter != '_').next();
+            let length = length.map(|length| length.trim().trim_start_matches("static").trim().to_string());
+            (name.unwrap_or("").to_string(), length)
+        });
+        functions.push((name.trim().to_string(), named.collect()));
+    }
+    functions
+}
+
+/// A list at its outermost commas.
+fn split(list: &str) -> Vec<String> {
+    let mut parts = vec![String::new()];
+    let mut depth = 0;
+    for letter in list.chars() {
+        match letter {
+            '(' | '[' => depth += 1,
+            ')' | ']' => depth -= 1,
+            _ => {}
+        }
+        match letter {
+            ',' if depth == 0 => parts.push(String::new()),
+            _ => parts.last_mut().expect("a part").push(letter),
+        }
+    }
+    parts
+}
+
+const STRICT: [&str; 5] = ["-Wall", "-Wextra", "-pedantic", "-Werror", "-fsyntax-only"];
+
+/// The compilers that are there, each with the word for its language. cc and c++ must be there.
+fn compilers() -> Vec<(&'static str, [&'static str; 2])> {
+    let all = [("cc", ["c", "-std=c11"]), ("c++", ["c++", "-std=c++17"]), ("clang", ["c", "-std=c11"]), ("clang++", ["c++", "-std=c++17"])];
+    let there = |compiler: &str| !compiler.starts_with("clang") || Command::new(compiler).arg("--version").output().is_ok();
+    all.into_iter().filter(|(compiler, _)| there(compiler)).collect()
+}
+
+/// Everything that is checked of a header; says what fails.
+fn check(header: &str, exports: &[Exports], name: &str) -> Result<(), String> {
+    let folder = PathBuf::from(env!("CARGO_TARGET_TMPDIR")).join(name);
+    fs::create_dir_all(&folder).expect("a folder");
+    fs::write(folder.join("olsketina.h"), header).expect("written");
+    let preprocessed = compile(&folder, "cc", &["-std=c11", "-E", "-P", "-x", "c"], "#include \"olsketina.h\"\n")?;
+    let declared = declared(&String::from_utf8_lossy(&preprocessed));
+    let functions: Vec<&Function> = exports.iter().flat_map(|exports| &exports.functions).collect();
+    for (name, _) in &declared {
+        if !functions.iter().any(|function| function.name == *name) {
+            return Err(format!("{name} is in the header alone"));
+        }
+    }
+    let mut lengths = Vec::new();
+    for function in functions {
+        let name = &function.name;
+        let Some((_, parameters)) = declared.iter().find(|(declared, _)| declared == name) else {
+            return Err(format!("{name} is not in the header"));
+        };
+        let expected = all_parameters(function);
+        if !expected.iter().map(|(name, ..)| name).eq(parameters.iter().map(|(name, _)| name)) {
+            return Err(format!("{name}: the parameters {parameters:?} are not {expected:?}"));
+        }
+        for ((_, _, source), (parameter, header)) in expected.iter().zip(parameters) {
+            match (source, header) {
+                (Some(source), Some(header)) => lengths.push((source.to_string(), header.clone())),
+                (None, None) => {}
+                _ => return Err(format!("{name}: {parameter} has a length on one side alone")),
+            }
+        }
+    }
+    for (compiler, [language, standard]) in compilers() {
+        let arguments = [&STRICT[..], &[standard, "-x", language]].concat();
+        compile(&folder, compiler, &arguments, &c_file(exports, &lengths)).map_err(|error| format!("{compiler}: {error}"))?;
+    }
+    Ok(())
+}
+
+#[test]
+fn the_header_has_the_types_of_the_sources() {
+    let exports = exports();
+    let functions: usize = exports.iter().map(|exports| exports.functions.len()).sum();
+    let constants: usize = exports.iter().map(|exports| exports.constants.len()).sum();
+    println!("header: {functions} functions and {constants} constants compared");
+    check(&header(), &exports, "header").unwrap_or_else(|error| panic!("{error}"));
+}
+
+/// Each of these changes of the header is found.
+#[test]
+fn a_wrong_header_fails() {
+    let (header, exports) = (header(), exports());
+    let wrong = [
+        ("a 16-bit value", "uint64_t *value", "uint16_t *value", "incompatible"),
+        ("a signed byte", "uint8_t *buffer", "int8_t *buffer", "incompatible"),
+        ("a constant that may be written", "const int16_t *elements", "int16_t *elements", "incompatible"),
+        ("exchanged types", "uint8_t *buffer, size_t buffer_len", "size_t buffer, uint8_t *buffer_len", "incompatible"),
+        ("exchanged names", "uint32_t row, uint32_t column", "uint32_t column, uint32_t row", "the parameters"),
+        ("another result", "uint32_t olsketina_cube_pack", "uint64_t olsketina_cube_pack", "incompatible"),
+        ("a missing name", "uint32_t olsketina_cube_unpack(", "static uint32_t olsketina_cube_unpack(", "not in the header"),
+        ("an extra name", "#ifdef __cplusplus\n}", "void olsketina_more(void);\n#ifdef __cplusplus\n}", "alone"),
+        ("another word count", "#define OLSKETINA_LAYOUT_WORDS 7", "#define OLSKETINA_LAYOUT_WORDS 8", "static assertion"),
+        ("another number of slots", "#define OLSKETINA_SLOTS 16", "#define OLSKETINA_SLOTS 15", "static assertion"),
+    ];
+    for (name, old, new, reason) in wrong {
+        assert!(header.contains(old), "{name}: the header has no {old:?}");
+        let error = check(&header.replacen(old, new, 1), &exports, "wrong").expect_err(name);
+        assert!(error.contains(reason), "{name}: {error}");
+    }
+}
+
+/// Floats and slices of floats too.
+#[test]
+fn signatures_are_read() {
+    let source = "#[no_mangle]\npub extern \"C\" fn f(\n    a: &[f32], // lent\n    b: &mut [f64; 2 * N],\n    c: f32,\n    d: &mut usize,\n) -> f64\n    ensures { x }\n{";
+    let mut exports = Exports::default();
+    signatures::read(&format!("pub const N: usize = 4; // four\n{source}"), &mut exports);
+    let exports = [exports];
+    assert_eq!(
+        signatures::declarations(&exports, "old_"),
+        "#[allow(dead_code)]\npub const N: usize = 4;\nextern \"C\" {\n    #[link_name = \"old_f\"]\n    \
+         pub fn f(a: *const f32, a_len: usize, b: &mut [f64; 2 * N], c: f32, d: &mut usize) -> f64;\n}\n"
+    );
+    let c = c_file(&exports, &[("2 * N".to_string(), "8".to_string())]);
+    assert!(c.contains("double (*check_f)(const float *, size_t, double *, float, size_t *) = f;"), "{c}");
+    assert!(c.contains("CHECK((2 * SOURCE_N) == (8), \"8\");"), "{c}");
+}
+
+/// The archives define the sources' functions, and no other name.
+#[test]
+fn the_archives_have_the_names_of_the_sources() {
+    for path in signatures::crates(&repository()) {
+        let name = signatures::name_of(&path);
+        let archive = repository().join(format!("target/staticlib/lib{name}.a"));
+        let output = Command::new("nm").args(["-g", "--defined-only"]).arg(&archive).output().expect("nm runs");
+        let text = String::from_utf8_lossy(&output.stdout).into_owned();
+        let mut defined: Vec<&str> = text.lines().filter_map(|line| line.split(' ').nth(2)).collect();
+        let functions = signatures::exports_of(&path).functions;
+        let mut exported: Vec<&str> = functions.iter().map(|function| function.name.as_str()).collect();
+        defined.sort_unstable();
+        exported.sort_unstable();
+        assert_eq!(defined, exported, "{}", archive.display());
+    }
+}
+
+/// The header's sentences and names of the refusals are those of the Rust library.
+#[test]
+fn refusals_are_the_same() {
+    let folder = PathBuf::from(env!("CARGO_TARGET_TMPDIR")).join("refusals");
+    fs::create_dir_all(&folder).expect("a folder");
+    fs::write(folder.join("olsketina.h"), header()).expect("written");
+    let program = folder.join("sentences");
+    let text =
+        "#include <stdio.h>\n#include \"olsketina.h\"\nint main(void) { for (uint32_t i = 0; i < 40; i++) puts(olsketina_sentence(i)); }\n";
+    compile(&folder, "cc", &["-std=c11", "-o", &program.display().to_string(), "-x", "c"], text).expect("compiles");
+    let output = Command::new(&program).output().expect("runs").stdout;
+    let output = String::from_utf8(output).expect("text");
+    for (line, number) in output.lines().zip(0..).skip(1) {
+        assert_eq!(line, olsketina::Refusal { number, fault: 0 }.sentence(), "{number}");
+    }
+    assert_eq!(output.lines().count(), 40);
+    assert!(header().contains(&format!("#define OLSKETINA_VERSION {}\n", olsketina::version())));
+}
