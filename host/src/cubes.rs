@@ -52,9 +52,7 @@ pub struct Table {
 }
 
 impl Table {
-    pub const SLOTS: usize = 16;
-    /// Of a layout, then of each slot.
-    pub const WORDS: usize = 7 + 5 * Table::SLOTS;
+    pub const WORDS: usize = raw::TABLE_WORDS;
 
     /// The table of a layout with every slot empty; the calls on it check the layout.
     #[must_use]
@@ -84,7 +82,7 @@ impl Table {
     /// The region in a slot, where there is one.
     #[must_use]
     pub fn region(&self, slot: u32) -> Option<Region> {
-        let slot = self.words[7..].chunks(5).nth(slot as usize)?;
+        let slot = self.words[raw::LAYOUT_WORDS..].chunks(raw::SLOT_WORDS).nth(slot as usize)?;
         (slot[0] != 0).then(|| [slot[1], slot[2], slot[3], slot[4]].into())
     }
 

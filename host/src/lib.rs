@@ -48,6 +48,9 @@ macro_rules! refusals {
         impl Refusal {
             $(#[doc = $sentence] pub const $name: u32 = $number;)*
 
+            /// Every refusal's name and number.
+            pub const ALL: &'static [(&'static str, u32)] = &[$((stringify!($name), $number)),*];
+
             /// What was refused, in a plain sentence.
             #[must_use]
             pub fn sentence(&self) -> &'static str {

@@ -49,27 +49,15 @@ impl Lookup {
         };
         let Lookup { x, y, .. } = self;
         let slopes = [x.below, x.above, y.below, y.above];
-        answered(|fault| unsafe {
-            run(
-                &[x.select, x.start, x.end],
-                &[y.select, y.start, y.end],
-                &slopes.map(|slope| slope.scale),
-                &slopes.map(|slope| slope.shift),
-                self.priority,
-                self.overflow,
-                self.underflow,
-                x_entries.as_ptr(),
-                x_entries.len(),
-                y_entries.as_ptr(),
-                y_entries.len(),
-                samples.as_ptr(),
-                samples.len(),
-                outputs.as_mut_ptr(),
-                outputs.len(),
-                counters,
-                fault,
-            )
-        })
+        let [x, y] = [x, y].map(|table| [table.select, table.start, table.end]);
+        let (scales, shifts) = (slopes.map(|slope| slope.scale), slopes.map(|slope| slope.shift));
+        #[rustfmt::skip]
+        let call = |fault: &mut usize| unsafe {
+            run(&x, &y, &scales, &shifts, self.priority, self.overflow, self.underflow,
+                x_entries.as_ptr(), x_entries.len(), y_entries.as_ptr(), y_entries.len(),
+                samples.as_ptr(), samples.len(), outputs.as_mut_ptr(), outputs.len(), counters, fault)
+        };
+        answered(call)
     }
 
     /// The ready-made settings for the camera curve; the choices are Priority, OverflowPriority and UnderflowPriority.

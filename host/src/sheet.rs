@@ -5,8 +5,8 @@ use crate::{raw, Answer, Refusal};
 /// A sheet in progress: its state in words and the line in progress (include/olsketina.h).
 #[derive(Clone, Copy, Debug, PartialEq, Eq)]
 pub struct Sheet {
-    pub state: [u32; 91],
-    pub text: [u8; 120],
+    pub state: [u32; raw::STATE_WORDS],
+    pub text: [u8; raw::TEXT_BYTES],
 }
 
 /// A line that ended: its number, and its value where it was accepted.
@@ -46,8 +46,8 @@ pub fn header_text() -> Vec<u8> {
     printed(|text| unsafe { raw::olsketina_script_header_text(text) })
 }
 
-fn printed(call: impl FnOnce(&mut [u8; 120]) -> u32) -> Vec<u8> {
-    let mut text = [255; 120];
+fn printed(call: impl FnOnce(&mut [u8; raw::TEXT_BYTES]) -> u32) -> Vec<u8> {
+    let mut text = [255; raw::TEXT_BYTES];
     let length = call(&mut text) as usize;
     debug_assert!(text[length..].iter().all(|&byte| byte == 0));
     text[..length].to_vec()
@@ -56,7 +56,7 @@ fn printed(call: impl FnOnce(&mut [u8; 120]) -> u32) -> Vec<u8> {
 impl Sheet {
     #[must_use]
     pub fn begin() -> Sheet {
-        let mut sheet = Sheet { state: [u32::MAX; 91], text: [255; 120] };
+        let mut sheet = Sheet { state: [u32::MAX; raw::STATE_WORDS], text: [255; raw::TEXT_BYTES] };
         unsafe { raw::olsketina_script_begin(&mut sheet.state, &mut sheet.text) };
         sheet
     }

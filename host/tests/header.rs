@@ -22,24 +22,15 @@ fn header() -> String {
     fs::read_to_string(repository().join("include/olsketina.h")).expect("the header is there")
 }
 
-/// The C type of a number.
-fn c_number(number: &str) -> &str {
-    match number {
-        "u8" => "uint8_t",
-        "u16" => "uint16_t",
-        "u32" => "uint32_t",
-        "u64" => "uint64_t",
-        "usize" => "size_t",
-        "i8" => "int8_t",
-        "i16" => "int16_t",
-        "i32" => "int32_t",
-        "i64" => "int64_t",
-        "isize" => "ptrdiff_t",
-        "f32" => "float",
-        "f64" => "double",
-        "bool" => "bool",
-        other => panic!("no C type for {other}"),
-    }
+/// The C type of each number.
+#[rustfmt::skip]
+const NUMBERS: [(&str, &str); 13] = [
+    ("u8", "uint8_t"), ("u16", "uint16_t"), ("u32", "uint32_t"), ("u64", "uint64_t"), ("usize", "size_t"), ("bool", "bool"),
+    ("i8", "int8_t"), ("i16", "int16_t"), ("i32", "int32_t"), ("i64", "int64_t"), ("isize", "ptrdiff_t"), ("f32", "float"), ("f64", "double"),
+];
+
+fn c_number(number: &str) -> &'static str {
+    NUMBERS.iter().find(|(source, _)| *source == number).unwrap_or_else(|| panic!("no C type for {number}")).1
 }
 
 /// The C parameters that a parameter passes as: name, type, and length where it is an array.
@@ -150,11 +141,11 @@ fn split(list: &str) -> Vec<String> {
     let mut parts = vec![String::new()];
     let mut depth = 0;
     for letter in list.chars() {
-        match letter {
-            '(' | '[' => depth += 1,
-            ')' | ']' => depth -= 1,
-            _ => {}
-        }
+        depth += match letter {
+            '(' | '[' => 1,
+            ')' | ']' => -1,
+            _ => 0,
+        };
         match letter {
             ',' if depth == 0 => parts.push(String::new()),
             _ => parts.last_mut().expect("a part").push(letter),
@@ -292,5 +283,8 @@ fn refusals_are_the_same() {
         assert_eq!(line, olsketina::Refusal { number, fault: 0 }.sentence(), "{number}");
     }
     assert_eq!(output.lines().count(), 40);
+    for (name, number) in olsketina::Refusal::ALL {
+        assert!(header().contains(&format!(" OLSKETINA_REFUSED_{name} = {number}")), "{name} = {number}");
+    }
     assert!(header().contains(&format!("#define OLSKETINA_VERSION {}\n", olsketina::version())));
 }

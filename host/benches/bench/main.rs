@@ -27,8 +27,8 @@ mod against {
 
 // ---- the calls of an archive
 
-type Pack<const N: usize> = unsafe extern "C" fn(&[u32; N], *const i16, usize, *mut u8, usize, &mut usize) -> u32;
-type Unpack<const N: usize> = unsafe extern "C" fn(&[u32; N], *const u8, usize, *mut i16, usize, &mut usize) -> u32;
+/// Packing and unpacking: a setting of N words, a slice of I, a slice of O.
+type Call<const N: usize, I, O> = unsafe extern "C" fn(&[u32; N], *const I, usize, *mut O, usize, &mut usize) -> u32;
 type Edit = unsafe extern "C" fn(&[u32; 87], u32, &[u32; 6], *const i16, usize, *mut u8, usize, &mut usize) -> u32;
 #[rustfmt::skip]
 type Lut = unsafe extern "C" fn(
@@ -37,11 +37,11 @@ type Lut = unsafe extern "C" fn(
 ) -> u32;
 
 struct Library {
-    cube_pack: Pack<7>,
-    cube_unpack: Unpack<7>,
+    cube_pack: Call<7, i16, u8>,
+    cube_unpack: Call<7, u8, i16>,
     edit: Edit,
-    weights_pack: Pack<5>,
-    weights_unpack: Unpack<5>,
+    weights_pack: Call<5, i16, u8>,
+    weights_unpack: Call<5, u8, i16>,
     run_linear: Lut,
     run_exponential: Lut,
 }
@@ -137,20 +137,6 @@ fn clock_cost() -> f64 {
     costs.fold(f64::MAX, f64::min)
 }
 
-/// Nanoseconds of one run: the thread's, and those that passed.
-#[derive(Clone, Copy)]
-struct Run {
-    thread: f64,
-    passed: f64,
-}
-
-impl Run {
-    /// Where a run is interrupted, the thread's clock may miss some microseconds of it.
-    fn interrupted(&self) -> bool {
-        self.passed > 1.05 * self.thread
-    }
-}
-
 /// Nanoseconds of one run.
 struct Times {
     best: f64,
@@ -158,14 +144,14 @@ struct Times {
 }
 
 impl Times {
-    /// Interrupted runs do not count, unless they are more than half.
-    fn of(mut runs: Vec<Run>) -> Self {
-        let interrupted = runs.iter().filter(|run| run.interrupted()).count();
-        if 2 * interrupted <= runs.len() {
-            runs.retain(|run| !run.interrupted());
-        }
-        runs.sort_by(|a, b| a.thread.total_cmp(&b.thread));
-        Times { best: runs[0].thread, median: runs[runs.len() / 2].thread }
+    /// Of runs, each with the nanoseconds of the thread and those that passed. Where a run is interrupted, the thread's clock may miss some
+    /// microseconds of it: such runs do not count, unless they are more than half.
+    fn of(runs: Vec<(f64, f64)>) -> Self {
+        let whole = runs.iter().filter(|(thread, passed)| *passed <= 1.05 * thread).count();
+        let counts = |(thread, passed): &&(f64, f64)| 2 * whole < runs.len() || *passed <= 1.05 * thread;
+        let mut times: Vec<f64> = runs.iter().filter(counts).map(|(thread, _)| *thread).collect();
+        times.sort_by(f64::total_cmp);
+        Times { best: times[0], median: times[times.len() / 2] }
     }
 }
 
@@ -213,36 +199,26 @@ fn interleave(repetitions: usize, before: &[Step], contenders: &mut [Contender])
             let thread = thread_time() - begin - cost;
             let passed = begun.elapsed().as_nanos() as f64 - 2.0 * cost;
             if repetition >= WARM_UP {
-                runs.push(Run { thread, passed });
+                runs.push((thread, passed));
             }
         }
     }
     runs.into_iter().map(Times::of).collect()
 }
 
-/// What our time of a workload may be at most, as a multiple of another's; judged where that other is timed.
-const BARS: &[(&str, f64, &str)] = &[
-    ("pack 640×480×32 int8", 3.0, "memcpy"),
-    ("pack 640×480×32 int8", 0.95, "old"),
-    ("pack 640×480×4 int8", 1.0, "old"),
-    ("pack 640×480×3 int8", 2.2, "memcpy"),
-    ("pack 640×480×3 int8", 1.0, "old"),
-    ("pack 1024×64×64 int16", 2.5, "memcpy"),
-    ("pack 1024×64×64 int16", 0.8, "old"),
-    ("unpack 640×480×32 int8", 3.0, "memcpy"),
-    ("unpack 640×480×32 int8", 0.9, "old"),
-    ("edit 64×64 over 32 channels int8", 6.0, "memcpy"),
-    ("edit 64×64 over 32 channels int8", 0.85, "old"),
-    ("weights 256×256×3×3 int8", 9.0, "memcpy"),
-    ("weights 256×256×3×3 int8", 0.7, "old"),
-    ("lookup linear, random", 1.5, "Rust loop"),
-    ("lookup linear, random", 0.6, "old"),
-    ("lookup linear, rising", 1.5, "Rust loop"),
-    ("lookup linear, rising", 1.1, "old"),
-    ("lookup exponential, random", 1.5, "Rust loop"),
-    ("lookup exponential, random", 0.75, "old"),
-    ("lookup exponential, rising", 1.5, "Rust loop"),
-    ("lookup exponential, rising", 1.1, "old"),
+/// What our time of a workload may be at most: a multiple of another's, and of the old archive's; judged where that other is timed.
+const BARS: &[(&str, &str, f64, f64)] = &[
+    ("pack 640×480×32 int8", "memcpy", 3.0, 0.95),
+    ("pack 640×480×4 int8", "", 0.0, 1.0),
+    ("pack 640×480×3 int8", "memcpy", 2.2, 1.0),
+    ("pack 1024×64×64 int16", "memcpy", 2.5, 0.8),
+    ("unpack 640×480×32 int8", "memcpy", 3.0, 0.9),
+    ("edit 64×64 over 32 channels int8", "memcpy", 6.0, 0.85),
+    ("weights 256×256×3×3 int8", "memcpy", 9.0, 0.7),
+    ("lookup linear, random", "Rust loop", 1.5, 0.6),
+    ("lookup linear, rising", "Rust loop", 1.5, 1.1),
+    ("lookup exponential, random", "Rust loop", 1.5, 0.75),
+    ("lookup exponential, rising", "Rust loop", 1.5, 1.1),
 ];
 
 struct Job<I, O> {
@@ -320,92 +296,89 @@ impl<I: Copy, O: Copy + Default + PartialEq> Job<I, O> {
 const SEED: u64 = 1;
 const LEFT: u8 = 0xee;
 
-/// What is packed or unpacked: elements of a precision, and bytes.
-struct Sizes {
-    precision: u32,
-    cells: usize,
-    bytes: usize,
+/// A setting with the elements and bytes that it packs.
+struct Packed<S> {
+    setting: S,
+    elements: Vec<i16>,
+    bytes: Vec<u8>,
 }
 
-fn cube_sizes(layout: Layout) -> Sizes {
-    let cells = draw::element_count(layout);
-    Sizes { precision: layout.precision, cells, bytes: draw::buffer_length(layout) }
+/// Of a precision, so many elements and bytes.
+fn packed<S>(setting: S, precision: u32, cells: usize, bytes: usize) -> Packed<S> {
+    let (mut elements, mut bytes_of) = (Generator::new(SEED), Generator::new(SEED));
+    Packed { setting, elements: elements.elements(precision, cells), bytes: bytes_of.bytes(bytes) }
 }
 
-fn weight_sizes(weights: Weights) -> Sizes {
-    let of = |answer: Answer<u64>| answer.expect("accepted") as usize;
-    let [cells, bytes] = [of(reference::weights::count(weights)), of(reference::weights::extent(weights))];
-    Sizes { precision: weights.precision, cells, bytes }
-}
-
-/// Packing with a setting of N words.
-fn pack<S: Copy + Into<[u32; N]>, const N: usize>(
-    name: &str, repetitions: usize, (setting, sizes): (S, Sizes), call: fn(&Library) -> Pack<N>,
-    plain: fn(&S, &[i16], &mut [u8]) -> Answer<()>,
-) -> Row {
-    let words = setting.into();
-    let elements = Generator::new(SEED).elements(sizes.precision, sizes.cells);
-    Job::new(name, repetitions, sizes.cells, elements, vec![LEFT; sizes.bytes]).measure(
-        |library, from, to, _| unsafe { call(library)(&words, from.as_ptr(), from.len(), to.as_mut_ptr(), to.len(), &mut 0) },
-        |from, to, _| plain(black_box(&setting), from, to),
-    )
-}
-
-/// The same of unpacking.
-fn unpack<S: Copy + Into<[u32; N]>, const N: usize>(
-    name: &str, repetitions: usize, (setting, sizes): (S, Sizes), call: fn(&Library) -> Unpack<N>,
-    plain: fn(&S, &[u8], &mut [i16]) -> Answer<()>,
-) -> Row {
-    let words = setting.into();
-    let buffer = Generator::new(SEED).bytes(sizes.bytes);
-    Job::new(name, repetitions, sizes.cells, buffer, vec![0; sizes.cells]).measure(
-        |library, from, to, _| unsafe { call(library)(&words, from.as_ptr(), from.len(), to.as_mut_ptr(), to.len(), &mut 0) },
-        |from, to, _| plain(black_box(&setting), from, to),
-    )
-}
-
-fn cube(width: u32, height: u32, channels: u32, precision: u32) -> (Layout, Sizes) {
+fn cube(width: u32, height: u32, channels: u32, precision: u32) -> Packed<Layout> {
     let line = 32 * width;
     let layout = Layout { width, height, channels, precision, line, surface: line * height, start: 0 };
-    (layout, cube_sizes(layout))
-}
-
-fn pack_cube(name: &str, cube: (Layout, Sizes)) -> Row {
-    pack(name, 41, cube, |library| library.cube_pack, loops::pack)
-}
-
-fn unpack_cube(name: &str, cube: (Layout, Sizes)) -> Row {
-    unpack(name, 41, cube, |library| library.cube_unpack, loops::unpack)
+    packed(layout, precision, draw::element_count(layout), draw::buffer_length(layout))
 }
 
 /// Kernels, channels, rows, columns, precision.
-fn weights(words: [u32; 5]) -> (Weights, Sizes) {
-    (words.into(), weight_sizes(words.into()))
+fn weights(words: [u32; 5]) -> Packed<Weights> {
+    let of = |answer: Answer<u64>| answer.expect("accepted") as usize;
+    let weights = words.into();
+    packed(weights, weights.precision, of(reference::weights::count(weights)), of(reference::weights::extent(weights)))
+}
+
+/// A job of one call with a setting, from a slice to a slice; `cells` is what the time is divided by.
+fn convey<S: Copy + Into<[u32; N]>, I: Copy, O: Copy + Default + PartialEq, const N: usize>(
+    job: Job<I, O>, setting: S, call: fn(&Library) -> Call<N, I, O>, plain: fn(&S, &[I], &mut [O]) -> Answer<()>,
+) -> Row {
+    let words = setting.into();
+    job.measure(
+        |library, from, to, _| unsafe { call(library)(&words, from.as_ptr(), from.len(), to.as_mut_ptr(), to.len(), &mut 0) },
+        |from, to, _| plain(black_box(&setting), from, to),
+    )
+}
+
+fn packing<S>(name: &str, repetitions: usize, of: Packed<S>) -> (Job<i16, u8>, S) {
+    let left = vec![LEFT; of.bytes.len()];
+    (Job::new(name, repetitions, of.elements.len(), of.elements, left), of.setting)
+}
+
+fn unpacking<S>(name: &str, repetitions: usize, of: Packed<S>) -> (Job<u8, i16>, S) {
+    let cells = of.elements.len();
+    (Job::new(name, repetitions, cells, of.bytes, vec![0; cells]), of.setting)
+}
+
+fn pack(name: &str, of: Packed<Layout>) -> Row {
+    let (job, layout) = packing(name, 41, of);
+    convey(job, layout, |library| library.cube_pack, loops::pack)
+}
+
+fn unpack(name: &str, of: Packed<Layout>) -> Row {
+    let (job, layout) = unpacking(name, 41, of);
+    convey(job, layout, |library| library.cube_unpack, loops::unpack)
 }
 
 fn pack_weights(name: &str, words: [u32; 5]) -> Row {
-    pack(name, 1001, weights(words), |library| library.weights_pack, loops::pack_weights)
+    let (job, weights) = packing(name, 1001, weights(words));
+    convey(job, weights, |library| library.weights_pack, loops::pack_weights)
 }
 
 fn unpack_weights(name: &str, words: [u32; 5]) -> Row {
-    unpack(name, 1001, weights(words), |library| library.weights_unpack, loops::unpack_weights)
+    let (job, weights) = unpacking(name, 1001, weights(words));
+    convey(job, weights, |library| library.weights_unpack, loops::unpack_weights)
 }
 
 /// A box of 64×64 over all channels, which fill their atoms, in a region of 128×128.
-fn edit(name: &str, (layout, sizes): (Layout, Sizes)) -> Row {
+fn edit(name: &str, of: Packed<Layout>) -> Row {
     const SLOT: u32 = 5;
+    let (layout, bytes) = (of.setting, of.bytes.len());
     let part = [0, 24, 40, layout.channels, 64, 64];
     let mut table = Table::empty(layout);
     table.place(SLOT, [96, 80, 128, 128].into()).expect("accepted");
     let corner = (80 + 24) * layout.line + 32 * (96 + 40);
-    let written = (corner as usize..sizes.bytes)
+    let written = (corner as usize..bytes)
         .step_by(layout.surface as usize)
         .flat_map(|at| (at..).step_by(layout.line as usize).take(64))
         .map(|at| at..at + 32 * 64)
         .collect();
     let cells = 64 * 64 * layout.channels as usize;
     let elements = Generator::new(SEED).elements(layout.precision, cells);
-    let job = Job { written, ..Job::new(name, 1001, cells, elements, vec![LEFT; sizes.bytes]) };
+    let job = Job { written, ..Job::new(name, 1001, cells, elements, vec![LEFT; bytes]) };
     job.measure(
         |library, from, to, _| unsafe {
             let (source, target) = (from.as_ptr(), to.as_mut_ptr());
@@ -479,9 +452,10 @@ fn print_row(row: &Row, times: &[Times]) {
     for (other, &name) in times.iter().zip(NAMES).skip(1) {
         let (best, median) = (ours.best / other.best, ours.median / other.median);
         print!(" {best:.3} ({median:.3}) |");
-        let judged = |of: &&(&str, f64, &str)| of.0 == row.name && of.2 == name;
-        if let Some((_, most, _)) = BARS.iter().find(judged) {
-            let met = best <= *most && median <= *most;
+        let judged = BARS.iter().find(|bar| bar.0 == row.name && (name == "old" || bar.1 == name));
+        if let Some(&(_, _, beside, old)) = judged {
+            let most = if name == "old" { old } else { beside };
+            let met = best <= most && median <= most;
             bar = format!("{most:.2} × {name}");
             result = if met { "met" } else { "missed" };
         }
@@ -519,13 +493,13 @@ fn main() {
     let large = || cube(640, 480, 32, 0);
     let wide = || cube(1024, 64, 64, 1);
     let mut rows = vec![
-        pack_cube("pack 640×480×32 int8", large()),
-        pack_cube("pack 640×480×12 int8", cube(640, 480, 12, 0)),
-        pack_cube("pack 640×480×4 int8", cube(640, 480, 4, 0)),
-        pack_cube("pack 640×480×3 int8", cube(640, 480, 3, 0)),
-        pack_cube("pack 1024×64×64 int16", wide()),
-        unpack_cube("unpack 640×480×32 int8", large()),
-        unpack_cube("unpack 1024×64×64 int16", wide()),
+        pack("pack 640×480×32 int8", large()),
+        pack("pack 640×480×12 int8", cube(640, 480, 12, 0)),
+        pack("pack 640×480×4 int8", cube(640, 480, 4, 0)),
+        pack("pack 640×480×3 int8", cube(640, 480, 3, 0)),
+        pack("pack 1024×64×64 int16", wide()),
+        unpack("unpack 640×480×32 int8", large()),
+        unpack("unpack 1024×64×64 int16", wide()),
         edit("edit 64×64 over 32 channels int8", large()),
         edit("edit 64×64 over 32 channels int16", cube(640, 480, 32, 1)),
         pack_weights("weights 256×256×3×3 int8", [256, 256, 3, 3, 0]),

@@ -1,5 +1,6 @@
 //! Making a call on both sides, comparing what they give and leave, and counting the answers.
 
+use crate::draw::Generator;
 use olsketina::Answer;
 use std::collections::BTreeMap;
 use std::fmt::{Arguments, Debug};
@@ -31,47 +32,56 @@ pub fn same<T: PartialEq + Debug>(what: &str, library: &[T], reference: &[T], ca
     }
 }
 
-/// How often a call gave each answer.
-pub struct Tally {
-    call: &'static str,
-    counts: BTreeMap<u32, u64>,
+/// The cases compared: how often each call gave each answer.
+#[derive(Default)]
+pub struct Both {
+    counts: BTreeMap<&'static str, BTreeMap<u32, u64>>,
 }
 
-impl Tally {
-    pub fn new(call: &'static str) -> Tally {
-        Tally { call, counts: BTreeMap::new() }
-    }
-
+impl Both {
     /// Compares two answers with their values and counts the case.
-    pub fn compare<T: PartialEq + Debug>(&mut self, library: Answer<T>, reference: Answer<T>, case: Arguments) -> Answer<T> {
-        let call = self.call;
+    pub fn same<T: PartialEq + Debug>(
+        &mut self, call: &'static str, library: Answer<T>, reference: Answer<T>, case: Arguments,
+    ) -> Answer<T> {
         assert!(library == reference, "{call}: the library gives {library:?}, the reference {reference:?}; case: {case}");
-        self.note(reference.as_ref().err().map_or(0, |refusal| refusal.number));
+        self.note(call, number(&library));
         library
     }
 
     /// Makes a call on both sides, each on its own copy of what is lent for writing; gives what both left.
     pub fn lend<T: Copy + PartialEq + From<u8> + Debug>(
-        &mut self, before: &[T], case: Arguments, library: impl FnOnce(&mut [T]) -> Answer<()>,
+        &mut self, call: &'static str, before: &[T], case: Arguments, library: impl FnOnce(&mut [T]) -> Answer<()>,
         reference: impl FnOnce(&mut [T]) -> Answer<()>,
     ) -> Vec<T> {
         let (ours, left) = lend(before, case, library);
         let mut theirs = before.to_vec();
-        let _ = self.compare(ours, reference(&mut theirs), case);
-        same(self.call, &left, &theirs, case);
+        let _ = self.same(call, ours, reference(&mut theirs), case);
+        same(call, &left, &theirs, case);
         left
     }
 
-    pub fn note(&mut self, number: u32) {
-        *self.counts.entry(number).or_insert(0) += 1;
+    pub fn note(&mut self, call: &'static str, number: u32) {
+        *self.counts.entry(call).or_default().entry(number).or_insert(0) += 1;
     }
 
-    /// Fails unless acceptance and each of these refusals, and nothing else, was seen. Prints the counts.
-    pub fn expect(self, refusals: &[u32]) {
-        let Tally { call, counts } = self;
-        println!("{call}: {} cases, by answer {counts:?}", counts.values().sum::<u64>());
-        let mut numbers = [&[0], refusals].concat();
-        numbers.sort_unstable();
-        assert!(counts.into_keys().eq(numbers.clone()), "{call}: the answers are not {numbers:?}");
+    /// Prints the counts; fails unless these calls gave these answers, and no other ones.
+    pub fn expect(self, answers: &str) {
+        let mut seen = Vec::new();
+        for (call, counts) in self.counts {
+            println!("{call}: {} cases, by answer {counts:?}", counts.values().sum::<u64>());
+            let numbers: Vec<String> = counts.keys().map(u32::to_string).collect();
+            seen.push(format!("{call}: {}", numbers.join(" ")));
+        }
+        assert_eq!(seen.join("; "), answers, "the answers seen, then those that must be");
     }
+}
+
+/// What a test begins with: numbers from a seed, and no case yet.
+pub fn start(seed: u64) -> (Generator, Both) {
+    (Generator::new(seed), Both::default())
+}
+
+/// An answer's number, 0 where it was accepted.
+pub fn number<T>(answer: &Answer<T>) -> u32 {
+    answer.as_ref().err().map_or(0, |refusal| refusal.number)
 }

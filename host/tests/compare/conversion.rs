@@ -1,11 +1,12 @@
 //! Integer conversion.
 
-use crate::both::Tally;
-use crate::draw::{Generator, PRECISIONS};
-use crate::reference;
+use crate::both::{start, Both};
+use crate::draw::PRECISIONS;
+use crate::reference::{self, each};
 
-fn compare(tally: &mut Tally, d: i32, offset: i16, scale: i16, shift: u32, precision: u32) {
-    let _ = tally.compare(
+fn compare(both: &mut Both, d: i32, offset: i16, scale: i16, shift: u32, precision: u32) {
+    let _ = both.same(
+        "quantize_convert",
         olsketina::convert(d, offset, scale, shift, precision),
         reference::convert::convert(d, offset, scale, shift, precision),
         format_args!("{d}, offset {offset}, scale {scale}, shift {shift}, to {precision}"),
@@ -14,31 +15,23 @@ fn compare(tally: &mut Tally, d: i32, offset: i16, scale: i16, shift: u32, preci
 
 #[test]
 fn extremes() {
-    let mut tally = Tally::new("quantize_convert");
+    let mut both = Both::default();
     let small = [-129, -128, -1, 0, 1, 2, 3, 127, 128, 255];
     let words = [&[i16::MIN, i16::MIN + 1], &small[..], &[i16::MAX]].concat();
     let [low, high] = [i32::MIN, i32::MAX];
     let far = [low, low + 1, -65537, -32769, -32768, -3, -2, 32767, 32768, 65536, high - 1, high];
     let shifts = (0..=33).chain([63, 64, 65, 128, 1 << 31, u32::MAX]);
-    for d in small.into_iter().map(i32::from).chain(far) {
-        for &offset in &words {
-            for &scale in &words {
-                for shift in shifts.clone() {
-                    for precision in PRECISIONS {
-                        compare(&mut tally, d, offset, scale, shift, precision);
-                    }
-                }
-            }
-        }
-    }
-    tally.expect(&[2, 16]);
+    let numbers = small.into_iter().map(i32::from).chain(far);
+    each!(d in numbers, &offset in &words, &scale in &words, shift in shifts.clone(), precision in PRECISIONS => {
+        compare(&mut both, d, offset, scale, shift, precision);
+    });
+    both.expect("quantize_convert: 0 2 16");
 }
 
 /// Values around the ends of both ranges, so that rounding and holding show.
 #[test]
 fn around_the_ranges() {
-    let mut g = Generator::new(60);
-    let mut tally = Tally::new("quantize_convert");
+    let (mut g, mut both) = start(60);
     for _ in 0..1_000_000 {
         let precision = g.among(0, 1);
         let shift = g.among(0, 31);
@@ -50,8 +43,8 @@ fn around_the_ranges() {
         let end = g.pick(&[0, 127, 128, -128, -129, 32767, 32768, -32768, -32769]);
         let wanted = (end << shift) / i64::from(scale.max(1)) + i64::from(offset);
         let d = (wanted + g.between(-2, 2)).clamp(i32::MIN.into(), i32::MAX.into()) as i32;
-        compare(&mut tally, d, offset, scale, shift, precision);
-        compare(&mut tally, g.word() as i32, offset, scale, shift, precision);
+        compare(&mut both, d, offset, scale, shift, precision);
+        compare(&mut both, g.word() as i32, offset, scale, shift, precision);
     }
-    tally.expect(&[]);
+    both.expect("quantize_convert: 0");
 }

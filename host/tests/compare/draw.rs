@@ -143,10 +143,11 @@ impl Generator {
         self.layout(width, height, channels, precision)
     }
 
-    /// Changes one to three words of a setting to limits, or to a little beside what they were.
-    pub fn damage<const N: usize>(&mut self, setting: &mut (impl Copy + Into<[u32; N]> + From<[u32; N]>)) {
+    /// Once in `odds` times changes one to three words of a setting to limits, or to a little beside what they were.
+    pub fn damage<const N: usize>(&mut self, odds: u64, setting: &mut (impl Copy + Into<[u32; N]> + From<[u32; N]>)) {
         let mut words: [u32; N] = (*setting).into();
-        for _ in 0..self.among(1, 3) {
+        let changes = if self.one_in(odds) { self.among(1, 3) } else { 0 };
+        for _ in 0..changes {
             let at = self.index(N);
             words[at] = match self.below(4) {
                 0 => self.pick(&EDGES),
@@ -171,12 +172,10 @@ impl Generator {
         }
     }
 
-    /// Puts numbers past the int8 range at one to three indices.
-    pub fn spoil(&mut self, elements: &mut [i16]) {
-        for _ in 0..self.among(1, 3) {
-            if elements.is_empty() {
-                return;
-            }
+    /// Once in `odds` times puts numbers past the int8 range at one to three indices.
+    pub fn spoil(&mut self, odds: u64, elements: &mut [i16]) {
+        let changes = if !elements.is_empty() && self.one_in(odds) { self.among(1, 3) } else { 0 };
+        for _ in 0..changes {
             let at = match self.below(4) {
                 0 => 0,
                 1 => elements.len() - 1,

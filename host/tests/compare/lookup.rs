@@ -1,8 +1,8 @@
 //! The two-table lookup, in both modes of X, and the camera curve.
 
-use crate::both::{same, Tally};
+use crate::both::{same, Both};
 use crate::draw::{Generator, EDGES};
-use crate::reference;
+use crate::reference::{self, each};
 use olsketina::{camera, Choice, Counters, Lookup, Mode, Slope, TableSettings};
 
 const MODES: [Mode; 2] = [Mode::Linear, Mode::Exponential];
@@ -16,41 +16,39 @@ struct Given {
     counters: Counters,
 }
 
-struct Tallies {
-    linear: Tally,
-    exponential: Tally,
-    /// How many samples of each kind the accepted runs had.
+/// The cases compared, and how many samples of each kind the accepted runs had.
+#[derive(Default)]
+struct Runs {
+    both: Both,
     kinds: [u64; 5],
 }
 
-impl Tallies {
-    fn new() -> Tallies {
-        let [linear, exponential] = ["lut_run_linear", "lut_run_exponential"].map(Tally::new);
-        Tallies { linear, exponential, kinds: [0; 5] }
-    }
-
+impl Runs {
     fn run(&mut self, lookup: Lookup, given: &Given) {
-        let tally = match lookup.mode {
-            Mode::Linear => &mut self.linear,
-            Mode::Exponential => &mut self.exponential,
-        };
+        let call = if lookup.mode == Mode::Linear { "lut_run_linear" } else { "lut_run_exponential" };
         let Given { xs, ys, samples, outputs, counters } = given;
         let [mut ours, mut theirs] = [*counters; 2];
         let case = format_args!("{lookup:?} X {xs:?} Y {ys:?} samples {samples:?} outputs {} {counters:?}", outputs.len());
         let library = |outputs: &mut [i32]| lookup.run(xs, ys, samples, outputs, &mut ours);
         let plain = |outputs: &mut [i32]| reference::lookup::run(&lookup, xs, ys, samples, outputs, &mut theirs);
-        tally.lend(outputs, case, library, plain);
+        self.both.lend(call, outputs, case, library, plain);
         same("counters", &ours, &theirs, case);
         for (kind, total) in self.kinds.iter_mut().enumerate() {
             *total += u64::from(ours[kind] - counters[kind]);
         }
     }
 
-    fn expect(self, refusals: &[u32]) {
-        self.linear.expect(refusals);
-        self.exponential.expect(refusals);
+    /// The same with tables, samples and counters drawn for it.
+    fn drawn(&mut self, g: &mut Generator, lookup: Lookup) {
+        let given = given(g, &lookup);
+        self.run(lookup, &given);
+    }
+
+    /// Fails unless both calls gave these answers, and every kind of sample was seen.
+    fn expect(self, answers: &str) {
         println!("samples by kind: {:?}", self.kinds);
         assert!(self.kinds.iter().all(|&samples| samples > 0));
+        self.both.expect(&format!("lut_run_exponential: {answers}; lut_run_linear: {answers}"));
     }
 }
 
@@ -161,115 +159,83 @@ fn given(g: &mut Generator, lookup: &Lookup) -> Given {
 
 #[test]
 fn accepted_runs() {
-    let mut g = Generator::new(80);
-    let mut tallies = Tallies::new();
-    for _ in 0..12000 {
-        for mode in MODES {
-            let lookup = settings(&mut g, mode);
-            let given = given(&mut g, &lookup);
-            tallies.run(lookup, &given);
-        }
-    }
-    tallies.expect(&[]);
+    let (mut g, mut runs) = (Generator::new(80), Runs::default());
+    each!(_ in 0..12000, mode in MODES => {
+        let lookup = settings(&mut g, mode);
+        runs.drawn(&mut g, lookup);
+    });
+    runs.expect("0");
 }
 
 /// Every select and offset from below its range to above it, with the right end and ends beside it.
 #[test]
 fn every_select_and_offset() {
-    let mut g = Generator::new(81);
-    let mut tallies = Tallies::new();
+    let (mut g, mut runs) = (Generator::new(81), Runs::default());
     for mode in MODES {
         let x = (-34..=34).map(|select| (true, select, (-6..=25).contains(&select)));
         let y = (-10..=25).map(|select| (false, select, (-8..=23).contains(&select)));
-        for (of_x, select, valid) in x.chain(y) {
-            for beside in [0, 0, 0, 1, -1, i32::MIN] {
-                let mut lookup = settings(&mut g, mode);
-                let last = if of_x { 64 } else { 256 };
-                let start = if valid { start(&mut g, last, select) } else { g.word() as i32 };
-                let end = if of_x && mode == Mode::Exponential { i32::MAX } else { held(end(start, last, select)) };
-                let table = if of_x { &mut lookup.x } else { &mut lookup.y };
-                (table.select, table.start, table.end) = (select, start, end.wrapping_add(beside));
-                let given = given(&mut g, &lookup);
-                tallies.run(lookup, &given);
-            }
-        }
+        each!((of_x, select, valid) in x.chain(y), beside in [0, 0, 0, 1, -1, i32::MIN] => {
+            let mut lookup = settings(&mut g, mode);
+            let last = if of_x { 64 } else { 256 };
+            let start = if valid { start(&mut g, last, select) } else { g.word() as i32 };
+            let end = if of_x && mode == Mode::Exponential { i32::MAX } else { held(end(start, last, select)) };
+            let table = if of_x { &mut lookup.x } else { &mut lookup.y };
+            (table.select, table.start, table.end) = (select, start, end.wrapping_add(beside));
+            runs.drawn(&mut g, lookup);
+        });
     }
-    tallies.expect(&[12, 13, 14, 15]);
+    runs.expect("0 12 13 14 15");
 }
 
 /// A table whose end would be past 32 bits has no end that is taken.
 #[test]
 fn ends_past_the_range() {
-    let mut g = Generator::new(82);
-    let mut tallies = Tallies::new();
+    let (mut g, mut runs) = (Generator::new(82), Runs::default());
     let x = (-6..=25).map(|select| (Mode::Linear, 64, select));
     let y = MODES.into_iter().flat_map(|mode| (-8..=23).map(move |select| (mode, 256, select)));
-    for (mode, last, select) in x.chain(y) {
-        for past in [-1, 0, 1, 2] {
-            let start = (i64::from(i32::MAX) - end(0, last, select) + past) as i32;
-            let mut lookup = settings(&mut g, mode);
-            let table = if last == 64 { &mut lookup.x } else { &mut lookup.y };
-            (table.select, table.start, table.end) = (select, start, end(start, last, select) as i32);
-            let given = given(&mut g, &lookup);
-            tallies.run(lookup, &given);
-        }
-    }
-    tallies.linear.expect(&[13, 15]);
-    tallies.exponential.expect(&[15]);
+    each!((mode, last, select) in x.chain(y), past in [-1, 0, 1, 2] => {
+        let start = (i64::from(i32::MAX) - end(0, last, select) + past) as i32;
+        let mut lookup = settings(&mut g, mode);
+        let table = if last == 64 { &mut lookup.x } else { &mut lookup.y };
+        (table.select, table.start, table.end) = (select, start, end(start, last, select) as i32);
+        runs.drawn(&mut g, lookup);
+    });
+    runs.both.expect("lut_run_exponential: 0 15; lut_run_linear: 0 13 15");
 }
 
 #[test]
 fn every_shift() {
-    let mut g = Generator::new(83);
-    let mut tallies = Tallies::new();
-    for mode in MODES {
-        for at in 0..4 {
-            for shift in (-17..=16).chain([i32::MIN, -32, -31, 31, 32, i32::MAX]) {
-                for scale in [i16::MIN, -3, -1, 0, 1, 3, i16::MAX] {
-                    let mut lookup = settings(&mut g, mode);
-                    *slopes(&mut lookup)[at] = Slope { scale, shift };
-                    let given = given(&mut g, &lookup);
-                    tallies.run(lookup, &given);
-                }
-            }
-        }
-    }
-    tallies.expect(&[16]);
+    let (mut g, mut runs) = (Generator::new(83), Runs::default());
+    each!(mode in MODES, at in 0..4, shift in (-17..=16).chain([i32::MIN, -32, -31, 31, 32, i32::MAX]), scale in [i16::MIN, -3, -1, 0, 1, 3, i16::MAX] => {
+        let mut lookup = settings(&mut g, mode);
+        *slopes(&mut lookup)[at] = Slope { scale, shift };
+        runs.drawn(&mut g, lookup);
+    });
+    runs.expect("0 16");
 }
 
 /// The longest slopes: a table at one end of the samples' range, and samples at the other.
 #[test]
 fn longest_slopes() {
-    let mut g = Generator::new(84);
-    let mut tallies = Tallies::new();
-    for scale in [i16::MIN, i16::MIN + 1, -1, 1, i16::MAX] {
-        for shift in [-16, -15, -1, 0, 1, 15] {
-            for entry in [i16::MIN, 0, i16::MAX] {
-                for start in [i32::MIN, i32::MAX - 1] {
-                    for bit in [false, true] {
-                        let slope = Slope { scale, shift };
-                        let table = |select| TableSettings { select, start, end: start + 1, below: slope, above: slope };
-                        let (mode, x, y) = (Mode::Linear, table(-6), table(-8));
-                        let linear = Lookup { mode, x, y, priority: bit, overflow: bit, underflow: bit };
-                        let mut given = given(&mut g, &linear);
-                        (given.xs, given.ys) = (vec![entry; 65], vec![entry; 257]);
-                        tallies.run(linear, &given);
-                        let x = TableSettings { select: 31, start: i32::MAX, end: i32::MAX, ..x };
-                        tallies.run(Lookup { mode: Mode::Exponential, x, ..linear }, &given);
-                    }
-                }
-            }
-        }
-    }
-    tallies.linear.expect(&[]);
-    tallies.exponential.expect(&[]);
+    let (mut g, mut runs) = (Generator::new(84), Runs::default());
+    each!(scale in [i16::MIN, i16::MIN + 1, -1, 1, i16::MAX], shift in [-16, -15, -1, 0, 1, 15], entry in [i16::MIN, 0, i16::MAX], start in [i32::MIN, i32::MAX - 1], bit in [false, true] => {
+        let slope = Slope { scale, shift };
+        let table = |select| TableSettings { select, start, end: start + 1, below: slope, above: slope };
+        let (mode, x, y) = (Mode::Linear, table(-6), table(-8));
+        let linear = Lookup { mode, x, y, priority: bit, overflow: bit, underflow: bit };
+        let mut given = given(&mut g, &linear);
+        (given.xs, given.ys) = (vec![entry; 65], vec![entry; 257]);
+        runs.run(linear, &given);
+        let x = TableSettings { select: 31, start: i32::MAX, end: i32::MAX, ..x };
+        runs.run(Lookup { mode: Mode::Exponential, x, ..linear }, &given);
+    });
+    runs.both.expect("lut_run_exponential: 0; lut_run_linear: 0");
 }
 
 /// Settings, table lengths, output lengths and counters right and wrong in every mixture.
 #[test]
 fn refusals_and_their_order() {
-    let mut g = Generator::new(85);
-    let mut tallies = Tallies::new();
+    let (mut g, mut runs) = (Generator::new(85), Runs::default());
     let [low, high] = [i32::MIN, i32::MAX];
     for round in 0..60000 {
         let mut lookup = settings(&mut g, MODES[round % 2]);
@@ -291,16 +257,15 @@ fn refusals_and_their_order() {
                 _ => given.counters[g.index(5)] = g.pick(&[u32::MAX, u32::MAX - 5, 1 << 31]),
             }
         }
-        tallies.run(lookup, &given);
+        runs.run(lookup, &given);
     }
-    tallies.expect(&[11, 12, 13, 14, 15, 16, 17, 18]);
+    runs.expect("0 11 12 13 14 15 16 17 18");
 }
 
 /// The five counters and the new samples up to 4294967295, and past it; also with no samples.
 #[test]
 fn counters_at_the_limit() {
-    let mut g = Generator::new(86);
-    let mut tallies = Tallies::new();
+    let (mut g, mut runs) = (Generator::new(86), Runs::default());
     for round in 0..6000 {
         let lookup = settings(&mut g, MODES[round % 2]);
         let mut given = given(&mut g, &lookup);
@@ -322,21 +287,19 @@ fn counters_at_the_limit() {
                 over = 0;
             }
         }
-        tallies.run(lookup, &given);
+        runs.run(lookup, &given);
     }
     let lookup = settings(&mut g, Mode::Linear);
     let mut given = given(&mut g, &lookup);
     given.samples.clear();
     given.outputs.clear();
-    for one in EDGES {
-        for other in EDGES {
-            given.counters = [one, 0, other, 0, 0];
-            tallies.run(lookup, &given);
-        }
-    }
+    each!(one in EDGES, other in EDGES => {
+        given.counters = [one, 0, other, 0, 0];
+        runs.run(lookup, &given);
+    });
     given.counters = [u32::MAX; 5];
-    tallies.run(lookup, &given);
-    tallies.expect(&[17]);
+    runs.run(lookup, &given);
+    runs.expect("0 17");
 }
 
 fn table(select: i32, start: i32, end: i32, [below, above]: [(i16, i32); 2]) -> TableSettings {
@@ -347,45 +310,39 @@ fn table(select: i32, start: i32, end: i32, [below, above]: [(i16, i32); 2]) -> 
 /// Each priority bit for each kind of sample.
 #[test]
 fn priorities() {
-    let mut g = Generator::new(87);
-    let mut tallies = Tallies::new();
-    for bits in 0..8 {
-        for mode in MODES {
-            // X from 0 to 64, Y from −500 to −244 or from 32 to 288: every pair of sides but X above with Y below, then that too.
-            for y_start in [-500, 32, 500] {
-                let x_end = if mode == Mode::Linear { 64 } else { i32::MAX };
-                let [priority, overflow, underflow] = [1, 2, 4].map(|bit| bits & bit != 0);
-                let x = table(0, 0, x_end, [(3, 0), (5, 1)]);
-                let y = table(0, y_start, y_start + 256, [(7, -1), (11, 2)]);
-                let lookup = Lookup { mode, x, y, priority, overflow, underflow };
-                let mut given = given(&mut g, &lookup);
-                given.samples = (-600..900).step_by(7).collect();
-                given.outputs = vec![0; given.samples.len()];
-                tallies.run(lookup, &given);
-            }
+    let (mut g, mut runs) = (Generator::new(87), Runs::default());
+    each!(bits in 0..8, mode in MODES => {
+        // X from 0 to 64, Y from −500 to −244 or from 32 to 288: every pair of sides but X above with Y below, then that too.
+        for y_start in [-500, 32, 500] {
+            let x_end = if mode == Mode::Linear { 64 } else { i32::MAX };
+            let [priority, overflow, underflow] = [1, 2, 4].map(|bit| bits & bit != 0);
+            let x = table(0, 0, x_end, [(3, 0), (5, 1)]);
+            let y = table(0, y_start, y_start + 256, [(7, -1), (11, 2)]);
+            let lookup = Lookup { mode, x, y, priority, overflow, underflow };
+            let mut given = given(&mut g, &lookup);
+            given.samples = (-600..900).step_by(7).collect();
+            given.outputs = vec![0; given.samples.len()];
+            runs.run(lookup, &given);
         }
-    }
-    tallies.expect(&[]);
+    });
+    runs.expect("0");
 }
 
 /// Every sample around a short exponential table, for every offset.
 #[test]
 fn exponential_samples_one_by_one() {
-    let mut g = Generator::new(88);
-    let mut tallies = Tallies::new();
-    for offset in -32..=31 {
-        for start in [0, -100, i32::MIN, i32::MAX - 700] {
-            let x = table(offset, start, i32::MAX, [(-3, 1), (5, 0)]);
-            let y = table(-8, -5000, -4999, [(7, 0), (11, 0)]);
-            let (mode, no) = (Mode::Exponential, false);
-            let lookup = Lookup { mode, x, y, priority: no, overflow: no, underflow: no };
-            let mut given = given(&mut g, &lookup);
-            given.samples = (-10..690).map(|d| start.saturating_add(d)).collect();
-            given.outputs = vec![0; given.samples.len()];
-            tallies.run(lookup, &given);
-        }
-    }
-    tallies.exponential.expect(&[]);
+    let (mut g, mut runs) = (Generator::new(88), Runs::default());
+    each!(offset in -32..=31, start in [0, -100, i32::MIN, i32::MAX - 700] => {
+        let x = table(offset, start, i32::MAX, [(-3, 1), (5, 0)]);
+        let y = table(-8, -5000, -4999, [(7, 0), (11, 0)]);
+        let (mode, no) = (Mode::Exponential, false);
+        let lookup = Lookup { mode, x, y, priority: no, overflow: no, underflow: no };
+        let mut given = given(&mut g, &lookup);
+        given.samples = (-10..690).map(|d| start.saturating_add(d)).collect();
+        given.outputs = vec![0; given.samples.len()];
+        runs.run(lookup, &given);
+    });
+    runs.both.expect("lut_run_exponential: 0");
 }
 
 #[test]
@@ -407,25 +364,20 @@ fn every_entry_of_the_curve() {
 /// Every select from below the range to above it, each bit named X, named Y or not named; then the settings at work.
 #[test]
 fn ready_made_settings() {
-    let mut g = Generator::new(90);
-    let mut made = Tally::new("camera_ready_made");
-    let mut runs = Tallies::new();
+    let (mut g, mut runs) = (Generator::new(90), Runs::default());
     let words = [0, 1, 2, 1 << 31, u32::MAX];
-    for select in (-3..=26).chain([i32::MIN, i32::MIN + 2, -22, 32, 34, i32::MAX]) {
-        for choice in 0..125 {
-            let choices = [1, 5, 25].map(|part| Choice(words[choice / part % 5]));
-            let plain = reference::camera::ready_made(select, choices);
-            let case = format_args!("{select} {choices:?}");
-            let Ok(lookup) = made.compare(Lookup::ready_made(select, choices), plain, case) else { continue };
-            let mut samples = vec![i32::MIN, -1, 0, 1, i32::MAX];
-            for end in [lookup.x.end, lookup.y.end] {
-                samples.extend([end - 1, end, end.saturating_add(1)]);
-            }
-            samples.extend((0..30).map(|_| g.between(0, lookup.y.end.into()) as i32));
-            let [xs, ys] = [camera::x_table().to_vec(), camera::y_table().to_vec()];
-            runs.run(lookup, &Given { xs, ys, outputs: vec![7; samples.len()], samples, counters: [1; 5] });
+    each!(select in (-3..=26).chain([i32::MIN, i32::MIN + 2, -22, 32, 34, i32::MAX]), choice in 0..125 => {
+        let choices = [1, 5, 25].map(|part| Choice(words[choice / part % 5]));
+        let plain = reference::camera::ready_made(select, choices);
+        let case = format_args!("{select} {choices:?}");
+        let Ok(lookup) = runs.both.same("camera_ready_made", Lookup::ready_made(select, choices), plain, case) else { continue };
+        let mut samples = vec![i32::MIN, -1, 0, 1, i32::MAX];
+        for end in [lookup.x.end, lookup.y.end] {
+            samples.extend([end - 1, end, end.saturating_add(1)]);
         }
-    }
-    made.expect(&[14]);
-    runs.linear.expect(&[]);
+        samples.extend((0..30).map(|_| g.between(0, lookup.y.end.into()) as i32));
+        let [xs, ys] = [camera::x_table().to_vec(), camera::y_table().to_vec()];
+        runs.run(lookup, &Given { xs, ys, outputs: vec![7; samples.len()], samples, counters: [1; 5] });
+    });
+    runs.both.expect("camera_ready_made: 0 14; lut_run_linear: 0");
 }

@@ -1,8 +1,8 @@
 //! The program beside a plain picture: a raw tensor and sixteen slots, fed the same calls, never the packed bytes. After every call the answers
 //! agree, and the buffer is the raw tensor packed over the bytes from before.
 
-use crate::both::{same, Tally};
-use crate::draw::{box_count, buffer_length, element_count, Generator};
+use crate::both::{same, start};
+use crate::draw::{box_count, buffer_length, element_count};
 use crate::reference;
 use olsketina::{Answer, ElementBox, Layout, Refusal, Region, Table};
 
@@ -95,10 +95,7 @@ impl Picture {
 
 #[test]
 fn every_call_agrees_with_the_plain_picture() {
-    let mut g = Generator::new(30);
-    let mut placings = Tally::new("place beside the plain picture");
-    let mut edits = Tally::new("edit beside the plain picture");
-    let mut reads = Tally::new("read beside the plain picture");
+    let (mut g, mut both) = start(30);
     for round in 0..1500 {
         let [width, height, channels, precision] = [g.among(1, 40), g.among(1, 5), g.among(1, 70), g.among(0, 2)];
         let layout = g.layout(width, height, channels, precision);
@@ -124,31 +121,28 @@ fn every_call_agrees_with_the_plain_picture() {
                 Some(&Some(region)) => g.inner_box(channels, region.rows, region.columns),
                 _ => g.inner_box(channels, height, width),
             };
-            if g.one_in(10) {
-                g.damage::<6>(&mut part);
-            }
+            g.damage::<6>(10, &mut part);
             let count = box_count(part).min(30000);
             let given = if g.one_in(10) { count + 1 } else { count };
             if kind == 0 {
                 let region = [part.column, part.row, part.columns, part.rows].into();
-                let _ = placings.compare(table.place(slot, region), picture.place(slot, region), case);
+                let _ = both.same("place beside the plain picture", table.place(slot, region), picture.place(slot, region), case);
             } else if kind == 1 {
                 let mut elements = g.elements(precision, given);
-                if g.one_in(10) {
-                    g.spoil(&mut elements);
-                }
+                g.spoil(10, &mut elements);
                 let answer = table.edit(slot, part, &elements, &mut buffer[..lent]);
-                let _ = edits.compare(answer, picture.edit(slot, part, &elements), case);
+                let _ = both.same("edit beside the plain picture", answer, picture.edit(slot, part, &elements), case);
             } else {
                 let library = |elements: &mut [i16]| table.read(slot, part, &buffer[..lent], elements);
-                reads.lend(&g.any_elements(given), case, library, |elements| picture.read(slot, part, elements));
+                both.lend("read beside the plain picture", &g.any_elements(given), case, library, |elements| {
+                    picture.read(slot, part, elements)
+                });
             }
             let mut packed = before.clone();
             assert_eq!(reference::cube::pack(layout, &picture.elements, &mut packed), Ok(()));
             same("buffer", &buffer, &packed, case);
         }
     }
-    placings.expect(&[8, 9, 10]);
-    edits.expect(&[5, 6, 7, 8, 9]);
-    reads.expect(&[5, 6, 8, 9]);
+    let [edits, places] = ["edit beside the plain picture: 0 5 6 7 8 9", "place beside the plain picture: 0 8 9 10"];
+    both.expect(&format!("{edits}; {places}; read beside the plain picture: 0 5 6 8 9"));
 }

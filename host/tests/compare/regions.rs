@@ -1,30 +1,20 @@
 //! Regions of a cube: lists of calls on one table and buffer, and tables of any words.
 
-use crate::both::{same, Tally};
+use crate::both::{number, same, Both};
 use crate::draw::{box_count, buffer_length, Generator, EDGES, OUTSIDE};
-use crate::reference;
+use crate::reference::{self, each};
 use olsketina::{Answer, ElementBox, Layout, Region, Table};
 
-/// A table and a buffer, alike on both sides after every call, and the counts of the calls on them.
+/// A table and a buffer, alike on both sides after every call, and the cases compared.
 struct Session {
     table: Table,
     buffer: Vec<u8>,
-    place: Tally,
-    edit: Tally,
-    read: Tally,
-    position: Tally,
+    both: Both,
 }
 
 impl Session {
     fn new() -> Session {
-        Session {
-            table: Table::from_words([0; 87]),
-            buffer: Vec::new(),
-            place: Tally::new("regions_place"),
-            edit: Tally::new("regions_edit"),
-            read: Tally::new("regions_read"),
-            position: Tally::new("regions_position"),
-        }
+        Session { table: Table::from_words([0; 87]), buffer: Vec::new(), both: Both::default() }
     }
 
     /// Goes on with an empty table.
@@ -39,7 +29,7 @@ impl Session {
         let mut plain = before;
         let case = format_args!("slot {slot} {region:?} {before:?}");
         let answer = reference::regions::place(&mut plain, slot, region);
-        let answer = self.place.compare(self.table.place(slot, region), answer, case);
+        let answer = self.both.same("regions_place", self.table.place(slot, region), answer, case);
         same("table", self.table.words(), plain.words(), case);
         answer
     }
@@ -54,7 +44,7 @@ impl Session {
             accepted = answer.is_ok();
             answer
         };
-        self.buffer = self.edit.lend(&before, case, library, plain);
+        self.buffer = self.both.lend("regions_edit", &before, case, library, plain);
         accepted
     }
 
@@ -63,14 +53,14 @@ impl Session {
         let Session { table, buffer, .. } = self;
         let case = format_args!("slot {slot} {part:?} elements {} buffer {} {table:?}", old.len(), buffer.len());
         let plain = |elements: &mut [i16]| reference::regions::read(table, slot, part, buffer, elements);
-        self.read.lend(old, case, |elements| table.read(slot, part, buffer, elements), plain)
+        self.both.lend("regions_read", old, case, |elements| table.read(slot, part, buffer, elements), plain)
     }
 
     fn position(&mut self, slot: u32, [channel, row, column]: [u32; 3]) {
         let table = self.table;
         let case = format_args!("slot {slot} channel {channel} row {row} column {column} {table:?}");
         let plain = reference::regions::position(&table, slot, channel, row, column);
-        let _ = self.position.compare(table.position(slot, channel, row, column), plain, case);
+        let _ = self.both.same("regions_position", table.position(slot, channel, row, column), plain, case);
     }
 
     /// A box for a slot: inside its region most often.
@@ -79,9 +69,7 @@ impl Session {
         let at = 7 + 5 * (slot % 16) as usize;
         let [channels, columns, rows] = [words[2], words[at + 3], words[at + 4]].map(|size| size.clamp(1, 130));
         let mut part = g.inner_box(channels, rows, columns);
-        if g.one_in(8) {
-            g.damage::<6>(&mut part);
-        }
+        g.damage::<6>(8, &mut part);
         part
     }
 
@@ -102,9 +90,7 @@ impl Session {
             let columns = g.among(1, width - column).min(g.among(1, width));
             let rows = g.among(1, height - row).min(g.among(1, height));
             let mut region = Region { column, row, columns, rows };
-            if g.one_in(6) {
-                g.damage::<4>(&mut region);
-            }
+            g.damage::<4>(6, &mut region);
             let _ = self.place(slot, region);
             return;
         }
@@ -114,9 +100,7 @@ impl Session {
         match call {
             2..=4 => {
                 let mut elements = g.elements(precision, given);
-                if g.one_in(10) {
-                    g.spoil(&mut elements);
-                }
+                g.spoil(10, &mut elements);
                 if self.edit(slot, part, &elements) {
                     let old = g.any_elements(given);
                     assert_eq!(self.read(slot, part, &old), elements, "read after edit: slot {slot} {part:?}");
@@ -129,28 +113,22 @@ impl Session {
             _ => self.position(slot, [part.channel, part.row, part.column]),
         }
     }
-
-    fn expect(self) {
-        self.place.expect(&[1, 2, 3, 4, 8, 9, 10]);
-        self.edit.expect(&[1, 2, 3, 4, 5, 6, 7, 8, 9]);
-        self.read.expect(&[1, 2, 3, 4, 5, 6, 8, 9]);
-        self.position.expect(&[1, 2, 3, 4, 8, 9]);
-    }
 }
+
+/// What the calls of a list answer.
+const LISTS: &str =
+    "regions_edit: 0 1 2 3 4 5 6 7 8 9; regions_place: 0 1 2 3 4 8 9 10; regions_position: 0 1 2 3 4 8 9; regions_read: 0 1 2 3 4 5 6 8 9";
 
 #[test]
 fn lists_of_calls() {
-    let mut g = Generator::new(20);
-    let mut session = Session::new();
+    let (mut g, mut session) = (Generator::new(20), Session::new());
     for round in 0..5000 {
         let width = if round % 25 == 0 { g.among(120, 200) } else { g.among(1, 100) };
         let [height, channels, precision] = [g.among(1, 5), g.among(1, 70), g.among(0, 2)];
         let mut layout = g.layout(width, height, channels, precision);
         let exact = buffer_length(layout);
         let length = if round % 10 == 0 { g.length_near(exact) } else { exact };
-        if round % 11 == 0 {
-            g.damage::<7>(&mut layout);
-        }
+        g.damage::<7>(11, &mut layout);
         let buffer = g.bytes(length);
         session.empty(layout, buffer);
         if round % 2 == 0 {
@@ -162,21 +140,18 @@ fn lists_of_calls() {
             session.any_call(&mut g);
         }
     }
-    session.expect();
+    session.both.expect(LISTS);
 }
 
 /// Tables of any words: placed words that are not 0 or 1, regions outside the cube, empty ones, sums past 32 bits.
 #[test]
 fn hand_made_tables() {
-    let mut g = Generator::new(21);
-    let mut session = Session::new();
-    for round in 0..12000 {
+    let (mut g, mut session) = (Generator::new(21), Session::new());
+    for _ in 0..12000 {
         let mut layout = g.small_layout();
         let exact = buffer_length(layout);
         let Layout { width, height, .. } = layout;
-        if round % 5 == 0 {
-            g.damage::<7>(&mut layout);
-        }
+        g.damage::<7>(5, &mut layout);
         let mut table = *reference::regions::empty(layout).words();
         for slot in table[7..].chunks_mut(5) {
             let [column, row] = [g.among(0, width - 1), g.among(0, height - 1)];
@@ -196,7 +171,7 @@ fn hand_made_tables() {
             session.any_call(&mut g);
         }
     }
-    session.expect();
+    session.both.expect(LISTS);
 }
 
 /// A table of one layout, one of whose slots has these words.
@@ -222,7 +197,7 @@ fn overlap_of_every_pair() {
             let _ = session.place(slot, [second % 5, second / 5 % 4, second / 20 % 6, second / 120]);
         }
     }
-    session.place.expect(&[9, 10]);
+    session.both.expect("regions_place: 0 9 10");
 }
 
 /// The scope paper's frame.
@@ -244,15 +219,13 @@ fn overlap_without_wrapping() {
             session.position(0, [0, 0, 0]);
         }
     }
-    session.place.expect(&[10]);
-    session.position.expect(&[8, 9]);
+    session.both.expect("regions_place: 0 10; regions_position: 0 8 9");
 }
 
 /// The readings that the paper's words leave to a reader, each with its answer.
 #[test]
 fn readings() {
-    let number = |answer: Answer<()>| answer.map_or_else(|refusal| (refusal.number, refusal.fault), |()| (0, 0));
-    let place = |words, slot, region: [u32; 4]| number(with_slot(FRAME, 0, words).place(slot, region.into())).0;
+    let place = |words, slot, region: [u32; 4]| number(&with_slot(FRAME, 0, words).place(slot, region.into()));
     let far = u32::MAX;
     assert_eq!(place([1, far, 0, 4, 2], 1, [0, 0, 1, 1]), 0);
     assert_eq!(place([1, 0, 0, far, far], 1, [0, 0, 1, 1]), 10);
@@ -266,7 +239,7 @@ fn readings() {
         let mut buffer = vec![9; bytes];
         let answer = table.edit(0, part.into(), elements, &mut buffer);
         assert!(buffer.iter().all(|&byte| byte == 9));
-        number(answer)
+        answer.map_or_else(|refusal| (refusal.number, refusal.fault), |()| (0, 0))
     };
     let inside = with_slot(FRAME, 0, [1, 0, 0, 2, 2]);
     assert_eq!(edit(inside, [0, 0, 0, 1, 1, 1], &[1], 479), (5, 0));
@@ -280,40 +253,32 @@ fn readings() {
 #[test]
 #[ignore = "long"]
 fn boxes_of_every_width_and_channel_count() {
-    let mut g = Generator::new(22);
-    let mut session = Session::new();
-    for precision in 0..=2 {
-        for columns in 1..=130 {
-            for channels in 1..=70 {
-                let [left, top, rows] = [g.among(0, 20), g.among(0, 1), g.among(1, 2)];
-                let [channel, row, column] = [g.among(0, 40), g.among(0, 1), g.among(0, 20)];
-                let region = [left, top, column + columns + g.among(0, 2), row + rows + g.among(0, 1)];
-                let depth = channel + channels + g.among(0, 3);
-                let width = left + region[2] + g.among(0, 2);
-                let layout = g.layout(width, top + region[3], depth, precision);
-                let buffer = g.bytes(buffer_length(layout));
-                session.empty(layout, buffer);
-                let slot = g.among(0, 15);
-                assert!(session.place(slot, region).is_ok());
-                let part = ElementBox { channel, row, column, channels, rows, columns };
-                let old = g.any_elements(box_count(part));
-                session.read(slot, part, &old);
-                let elements = g.elements(precision, old.len());
-                assert!(session.edit(slot, part, &elements));
-                assert_eq!(session.read(slot, part, &old), elements, "read after edit: {layout:?} {part:?}");
-            }
-        }
-    }
-    for tally in [session.place, session.edit, session.read] {
-        tally.expect(&[]);
-    }
+    let (mut g, mut session) = (Generator::new(22), Session::new());
+    each!(precision in 0..=2, columns in 1..=130, channels in 1..=70 => {
+        let [left, top, rows] = [g.among(0, 20), g.among(0, 1), g.among(1, 2)];
+        let [channel, row, column] = [g.among(0, 40), g.among(0, 1), g.among(0, 20)];
+        let region = [left, top, column + columns + g.among(0, 2), row + rows + g.among(0, 1)];
+        let depth = channel + channels + g.among(0, 3);
+        let width = left + region[2] + g.among(0, 2);
+        let layout = g.layout(width, top + region[3], depth, precision);
+        let buffer = g.bytes(buffer_length(layout));
+        session.empty(layout, buffer);
+        let slot = g.among(0, 15);
+        assert!(session.place(slot, region).is_ok());
+        let part = ElementBox { channel, row, column, channels, rows, columns };
+        let old = g.any_elements(box_count(part));
+        session.read(slot, part, &old);
+        let elements = g.elements(precision, old.len());
+        assert!(session.edit(slot, part, &elements));
+        assert_eq!(session.read(slot, part, &old), elements, "read after edit: {layout:?} {part:?}");
+    });
+    session.both.expect("regions_edit: 0; regions_place: 0; regions_read: 0");
 }
 
 /// Positions past 32 bits, in regions at and beside the limits of large cubes.
 #[test]
 fn positions_in_large_cubes() {
-    let mut g = Generator::new(25);
-    let mut session = Session::new();
+    let (mut g, mut session) = (Generator::new(25), Session::new());
     let layouts = [
         [8192, 8192, 8192, 1, 262144, 2147483648, 4294967264],
         [1, 1, 8192, 1, 32, 4294967264, 4294967264],
@@ -337,15 +302,13 @@ fn positions_in_large_cubes() {
             }
         }
     }
-    session.place.expect(&[9]);
-    session.position.expect(&[8, 9]);
+    session.both.expect("regions_place: 0 9; regions_position: 0 8 9");
 }
 
 /// One element out of range at every index of an edit.
 #[test]
 fn values_out_of_range_at_every_index() {
-    let mut g = Generator::new(24);
-    let mut session = Session::new();
+    let (mut g, mut session) = (Generator::new(24), Session::new());
     for precision in 0..=2 {
         let layout = g.layout(40, 3, 36, precision);
         let buffer = g.bytes(buffer_length(layout));
@@ -358,14 +321,12 @@ fn values_out_of_range_at_every_index() {
             session.edit(3, part, &elements);
         }
     }
-    session.place.expect(&[]);
-    session.edit.expect(&[7]);
+    session.both.expect("regions_edit: 0 7; regions_place: 0");
 }
 
 #[test]
 fn empty_tables() {
-    let mut g = Generator::new(23);
-    let mut session = Session::new();
+    let (mut g, mut session) = (Generator::new(23), Session::new());
     for _ in 0..5000 {
         let words: [u32; 7] = std::array::from_fn(|_| g.pick(&EDGES));
         session.empty(words.into(), Vec::new());

@@ -1,20 +1,19 @@
 //! Sheets: whole ones and parts of them, records of every kind, states of any words.
 
-use crate::both::{same, Tally};
+use crate::both::{number, same, Both};
 use crate::draw::{Generator, EDGES};
-use crate::reference;
+use crate::reference::{self, each};
 use olsketina::{Row, Sheet};
 
 /// A sheet in progress, alike on both sides after every part, and the counts of the answers of its lines.
 struct Session {
     sheet: Sheet,
-    rows: Tally,
-    parts: u64,
+    both: Both,
 }
 
 impl Session {
-    fn new(name: &'static str) -> Session {
-        Session { sheet: reference::sheet::begin(), rows: Tally::new(name), parts: 0 }
+    fn new() -> Session {
+        Session { sheet: reference::sheet::begin(), both: Both::default() }
     }
 
     fn begin(&mut self) {
@@ -34,9 +33,9 @@ impl Session {
         same("bytes read, row", &[given], &[plain(&mut theirs)], case);
         same("state", &self.sheet.state, &theirs.state, case);
         same("text", &self.sheet.text, &theirs.text, case);
-        self.parts += 1;
+        self.both.note("parts", 0);
         if let Some(row) = given.1 {
-            self.rows.note(row.answer.map_or_else(|refusal| refusal.number, |_| 0));
+            self.both.note("lines", number(&row.answer));
             same("row's text", &row.text(), &reference::sheet::text(&row), case);
         }
         given
@@ -78,23 +77,18 @@ impl Session {
         self.sheet = *framed;
         let mut rows = Vec::new();
         self.feed_all(&[line, b"\n"].concat(), &mut rows);
-        rows[0].answer.map_or_else(|refusal| refusal.number, |_| 0)
-    }
-
-    fn expect(self, refusals: &[u32]) {
-        println!("parts fed and sheets finished: {}", self.parts);
-        self.rows.expect(refusals);
+        number(&rows[0].answer)
     }
 }
 
-/// The refusals that a line can get.
-const LINE_REFUSALS: [u32; 8] = [1, 2, 3, 4, 8, 9, 10, 24];
+/// All that a line can be answered.
+const ANSWERS: &str = "lines: 0 1 2 3 4 8 9 10 24; parts: 0";
 
 const FRAME: &str = "frame\t3\t2\t40\t0\t128\t256\t0\n";
 
 /// A sheet that has read the paper's frame and a stall.
 fn framed() -> Sheet {
-    let mut session = Session::new("frame and stall");
+    let mut session = Session::new();
     session.feed_all(FRAME.as_bytes(), &mut Vec::new());
     session.feed_all(b"stall\t1\t1\t0\t2\t1\n", &mut Vec::new());
     session.sheet
@@ -110,23 +104,17 @@ fn good_line(g: &mut Generator) -> Vec<u8> {
     match g.below(8) {
         0 => {
             let mut layout: [u32; 7] = g.small_layout().into();
-            if g.one_in(2) {
-                g.damage(&mut layout);
-            }
+            g.damage(2, &mut layout);
             joined("frame", &layout)
         }
         1..=4 => {
             let mut stall = [g.among(0, 4), g.among(0, 5), g.among(0, 2), g.among(1, 4), g.among(1, 2)];
-            if g.one_in(6) {
-                g.damage(&mut stall);
-            }
+            g.damage(6, &mut stall);
             joined("stall", &stall)
         }
         _ => {
             let mut cell = [g.among(0, 4), g.among(0, 20), g.among(0, 1), g.among(0, 2)];
-            if g.one_in(6) {
-                g.damage(&mut cell);
-            }
+            g.damage(6, &mut cell);
             joined("cell", &cell)
         }
     }
@@ -190,8 +178,7 @@ fn any_sheet(g: &mut Generator, lines: u64) -> Vec<u8> {
 
 #[test]
 fn whole_sheets() {
-    let mut g = Generator::new(100);
-    let mut session = Session::new("lines of whole sheets");
+    let (mut g, mut session) = (Generator::new(100), Session::new());
     for _ in 0..10000 {
         let lines = g.below(40);
         let input = any_sheet(&mut g, lines);
@@ -202,14 +189,13 @@ fn whole_sheets() {
         assert_eq!(rows.len(), newlines + usize::from(unended));
         assert!(rows.iter().map(|row| row.line).eq(1..=rows.len() as u64));
     }
-    session.expect(&LINE_REFUSALS);
+    session.both.expect(ANSWERS);
 }
 
 /// Each cut in two gives the rows of the whole; so do single bytes and parts of any length.
 #[test]
 fn sheets_in_parts() {
-    let mut g = Generator::new(101);
-    let mut session = Session::new("lines of sheets in parts");
+    let (mut g, mut session) = (Generator::new(101), Session::new());
     for _ in 0..200 {
         let input = any_sheet(&mut g, 8);
         let rows = session.whole(&input, &[]);
@@ -223,36 +209,32 @@ fn sheets_in_parts() {
             assert_eq!(session.whole(&input, &some), rows);
         }
     }
-    session.expect(&LINE_REFUSALS);
+    session.both.expect(ANSWERS);
 }
 
 /// Lines of every length around 120, of every filling byte, and very long ones; the next line is read as itself.
 #[test]
 fn long_lines() {
-    let mut session = Session::new("long lines");
-    for length in (0..=130).chain([240, 241, 1000, 70000]) {
-        for byte in [b'0', b'\t', b'x', 0, b'\r', 255] {
-            for start in [&b""[..], b"frame\t", b"cell\t0\t0\t0\t0"] {
-                let mut line = start.to_vec();
-                line.resize(start.len().max(length), byte);
-                let input = [FRAME.as_bytes(), &line, b"\nstall\t0\t0\t0\t2\t2\ncell\t0\t33\t1\t1"].concat();
-                let rows = session.whole(&input, &[]);
-                let cuts: Vec<usize> = (0..input.len()).step_by(50).collect();
-                assert_eq!(session.whole(&input, &cuts), rows);
-                assert_eq!((rows.len(), rows[3]), (4, Row { line: 4, answer: Ok(417) }));
-            }
-        }
-    }
-    session.expect(&[8, 24]);
+    let mut session = Session::new();
+    each!(length in (0..=130).chain([240, 241, 1000, 70000]), byte in [b'0', b'\t', b'x', 0, b'\r', 255], start in [&b""[..], b"frame\t", b"cell\t0\t0\t0\t0"] => {
+        let mut line = start.to_vec();
+        line.resize(start.len().max(length), byte);
+        let input = [FRAME.as_bytes(), &line, b"\nstall\t0\t0\t0\t2\t2\ncell\t0\t33\t1\t1"].concat();
+        let rows = session.whole(&input, &[]);
+        let cuts: Vec<usize> = (0..input.len()).step_by(50).collect();
+        assert_eq!(session.whole(&input, &cuts), rows);
+        assert_eq!((rows.len(), rows[3]), (4, Row { line: 4, answer: Ok(417) }));
+    });
+    session.both.expect("lines: 0 8 24; parts: 0");
 }
 
 /// The readings that the paper's words leave to a reader: the answers, line by line.
 #[test]
 fn readings() {
-    let mut session = Session::new("lines of the readings");
+    let mut session = Session::new();
     let mut answers = |input: &str| -> Vec<u32> {
         let rows = session.whole(input.as_bytes(), &[]);
-        rows.iter().map(|row| row.answer.map_or_else(|refusal| refusal.number, |_| 0)).collect()
+        rows.iter().map(|row| number(&row.answer)).collect()
     };
     assert_eq!(answers(""), []);
     assert_eq!(answers(FRAME), [0]);
@@ -270,14 +252,13 @@ fn readings() {
         "frame\t1\t1\t8192\t1\t32\t4294967264\t4294967264\nframe\t8192\t8192\t8192\t0\t262144\t2147483648\t0\nstall\t0\t0\t0\t8192\t8192";
     let values = session.whole(wide.as_bytes(), &[]).into_iter().map(|row| row.answer);
     assert!(values.eq([2194728271936, 549755813888, 549755813888].map(Ok)));
-    session.expect(&[1, 2, 8, 9, 24]);
+    session.both.expect("lines: 0 1 2 8 9 24; parts: 0");
 }
 
 /// States of any words, with a part of a record as the line in progress.
 #[test]
 fn hand_made_states() {
-    let mut g = Generator::new(102);
-    let mut session = Session::new("lines on hand-made states");
+    let (mut g, mut session) = (Generator::new(102), Session::new());
     for _ in 0..40000 {
         let mut state: [u32; 91] = std::array::from_fn(|_| g.pick(&EDGES));
         let mut text: [u8; 120] = std::array::from_fn(|_| g.word() as u8);
@@ -319,37 +300,32 @@ fn hand_made_states() {
         }
         let _ = (session.finish(), session.finish());
     }
-    session.expect(&LINE_REFUSALS);
+    session.both.expect(ANSWERS);
 }
 
 /// An accepted frame on a state of other words: the words that already say so stay, every slot is empty.
 #[test]
 fn words_that_stay() {
-    let mut session = Session::new("lines on words that stay");
+    let mut session = Session::new();
     let lines = [FRAME, "frame\t0\t2\t40\t0\t128\t256\t0\n", "stall\t15\t0\t0\t1\t1\n", "cell\t0\t0\t0\t0\n", "none\n", "part", ""];
-    for framed in [0, 1, 2, u32::MAX] {
-        for placed in [0, 1, 2, u32::MAX] {
-            for line in lines {
-                let mut state = [0; 91];
-                state[3] = framed;
-                state[4..11].copy_from_slice(&[3, 2, 40, 0, 128, 256, 0]);
-                for slot in state[11..].chunks_mut(5) {
-                    slot.copy_from_slice(&[placed, 1, 1, 1, 1]);
-                }
-                state[86] = 0;
-                session.sheet = Sheet { state, text: [b'y'; 120] };
-                let _ = (session.feed(line.as_bytes()), session.finish());
-            }
+    each!(framed in [0, 1, 2, u32::MAX], placed in [0, 1, 2, u32::MAX], line in lines => {
+        let mut state = [0; 91];
+        state[3] = framed;
+        state[4..11].copy_from_slice(&[3, 2, 40, 0, 128, 256, 0]);
+        for slot in state[11..].chunks_mut(5) {
+            slot.copy_from_slice(&[placed, 1, 1, 1, 1]);
         }
-    }
-    session.expect(&[1, 8, 24]);
+        state[86] = 0;
+        session.sheet = Sheet { state, text: [b'y'; 120] };
+        let _ = (session.feed(line.as_bytes()), session.finish());
+    });
+    session.both.expect("lines: 0 1 8 24; parts: 0");
 }
 
 /// Records good and damaged, each on a sheet of its own.
 #[test]
 fn records() {
-    let mut g = Generator::new(103);
-    let mut session = Session::new("records");
+    let (mut g, mut session) = (Generator::new(103), Session::new());
     let framed = framed();
     for _ in 0..200_000 {
         let mut line = good_line(&mut g);
@@ -364,13 +340,13 @@ fn records() {
         let line: Vec<u8> = (0..g.below(140)).map(|_| g.pick(b"framestallcell\t\t\t0123456789\n")).collect();
         session.line(&framed, &line);
     }
-    session.expect(&LINE_REFUSALS);
+    session.both.expect(ANSWERS);
 }
 
 /// Numbers at and past their limits, in every field of every record.
 #[test]
 fn numbers_in_every_field() {
-    let mut session = Session::new("numbers of records");
+    let mut session = Session::new();
     let framed = framed();
     let numbers = "0 1 9 10 00 01 007 4294967295 4294967296 4294967299 4294967300 4300000000 5000000000 9999999999 04294967295 10000000000 \
         42949672950 18446744073709551615 18446744073709551616 18446744073709551617 340282366920938463463374607431768211456 -1 +1 1.0 0x1 1e3 ٣";
@@ -379,25 +355,21 @@ fn numbers_in_every_field() {
     for (name, good) in good {
         let right: Vec<&str> = good.split(' ').collect();
         for fields in 0..=right.len() + 2 {
-            for at in 0..fields {
-                for number in numbers.split(' ').chain(odd) {
-                    let field = |field| format!("\t{}", if field == at { number } else { right.get(field).unwrap_or(&"3") });
-                    let line: String = name.to_string() + &(0..fields).map(field).collect::<String>();
-                    session.line(&framed, line.as_bytes());
-                }
-            }
+            each!(at in 0..fields, number in numbers.split(' ').chain(odd) => {
+                let field = |field| format!("\t{}", if field == at { number } else { right.get(field).unwrap_or(&"3") });
+                let line: String = name.to_string() + &(0..fields).map(field).collect::<String>();
+                session.line(&framed, line.as_bytes());
+            });
             let bare = format!("{name}{}", "\t1".repeat(fields));
             assert_eq!(session.line(&framed, bare.as_bytes()) != 24, fields == right.len(), "{bare:?}");
         }
     }
     let names =
         ["", "f", "fram", "framee", "Frame", "FRAME", "stalls", "stal", "cel", "cells", "cell ", " cell", "frame\0", "cell\r", "call"];
-    for name in names {
-        for count in 0..9 {
-            let line = format!("{name}{}", "\t1".repeat(count));
-            session.line(&framed, line.as_bytes());
-            session.line(&framed, format!("\t{line}").as_bytes());
-        }
-    }
-    session.expect(&LINE_REFUSALS);
+    each!(name in names, count in 0..9 => {
+        let line = format!("{name}{}", "\t1".repeat(count));
+        session.line(&framed, line.as_bytes());
+        session.line(&framed, format!("\t{line}").as_bytes());
+    });
+    session.both.expect(ANSWERS);
 }

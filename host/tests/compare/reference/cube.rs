@@ -79,14 +79,10 @@ pub fn position(layout: Layout, channel: u32, row: u32, column: u32) -> Answer<u
 pub fn pack(layout: Layout, elements: &[i16], buffer: &mut [u8]) -> Answer<()> {
     let cube = admitted(layout, elements.len(), buffer.len())?;
     check_values(layout.precision, elements)?;
-    for surface in 0..cube.surfaces() {
-        for h in 0..cube.height {
-            for w in 0..cube.width {
-                let atom = (cube.start + surface * cube.surface + h * cube.line + w * 32) as usize;
-                buffer[atom..atom + 32].fill(0);
-            }
-        }
-    }
+    each!(surface in 0..cube.surfaces(), h in 0..cube.height, w in 0..cube.width => {
+        let atom = (cube.start + surface * cube.surface + h * cube.line + w * 32) as usize;
+        buffer[atom..atom + 32].fill(0);
+    });
     for (&element, at) in elements.iter().zip(cube.all_positions()) {
         write(cube.precision, element, buffer, at);
     }

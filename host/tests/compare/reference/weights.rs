@@ -58,16 +58,10 @@ impl Numbers {
     /// Hands every weight's raw index and byte position to `take`.
     fn each(&self, mut take: impl FnMut(usize, usize)) {
         let mut index = 0;
-        for k in 0..self.kernels {
-            for c in 0..self.channels {
-                for r in 0..self.rows {
-                    for s in 0..self.columns {
-                        take(index, self.position(k, c, r, s));
-                        index += 1;
-                    }
-                }
-            }
-        }
+        each!(k in 0..self.kernels, c in 0..self.channels, r in 0..self.rows, s in 0..self.columns => {
+            take(index, self.position(k, c, r, s));
+            index += 1;
+        });
     }
 }
 
