@@ -2,6 +2,21 @@
 //! contents of any argument, and refuses what breaks a rule of the scope paper. Each call is a proved one of crates/olsketina/src/ or
 //! crates/olsketina_curve/src/, where its promise stands above it; include/olsketina.h says in words what it does and which checks it makes.
 //!
+//! ```
+//! use olsketina::{Layout, Refusal, Region, Table, INT8};
+//!
+//! let frame = Layout { width: 3, height: 2, channels: 40, precision: INT8, line: 128, surface: 256, start: 0 };
+//! let mut buffer = vec![0; frame.extent()? as usize];
+//! frame.pack(&[1; 240], &mut buffer)?;
+//! let mut desk = Table::empty(frame);
+//! desk.place(0, Region { column: 0, row: 0, columns: 2, rows: 2 })?;
+//! desk.edit(0, [33, 1, 0, 1, 1, 2].into(), &[7, 8], &mut buffer)?;
+//! assert_eq!(buffer[desk.position(0, 33, 1, 1)? as usize], 8);
+//! let refusal = desk.place(1, Region { column: 1, row: 0, columns: 2, rows: 1 }).unwrap_err();
+//! assert_eq!(refusal.to_string(), "refused, 10: the region overlaps one that is placed");
+//! # Ok::<(), Refusal>(())
+//! ```
+//!
 //! Why each `unsafe` is sound: what is lent is a slice, passed as its pointer (never null, aligned) and its length, or an array of the length
 //! that the call's own signature has; what is lent for writing is borrowed mutably, so it overlaps nothing else that is lent; the library takes
 //! any contents and keeps no pointer.
@@ -129,6 +144,11 @@ macro_rules! words {
         #[derive(Clone, Copy, Debug, Default, PartialEq, Eq)]
         pub struct $name {
             $(pub $field: u32,)*
+        }
+
+        impl $name {
+            /// The names of its words, in their order.
+            pub const WORDS: &'static [&'static str] = &[$(stringify!($field)),*];
         }
 
         impl From<[u32; $count]> for $name {

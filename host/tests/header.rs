@@ -5,6 +5,7 @@
 #[allow(dead_code)]
 mod signatures;
 
+use olsketina::{ElementBox, Image, Layout, Region, Weights};
 use signatures::{Exports, Function, Parameter, Shape};
 use std::path::{Path, PathBuf};
 use std::process::Command;
@@ -64,7 +65,7 @@ fn c_expression(text: &str) -> String {
     c
 }
 
-/// The C file of typed function pointers, constants and array lengths.
+/// The C file of typed function pointers, constants, array lengths, and the words of settings in the order of the Rust structs.
 fn c_file(exports: &[Exports], lengths: &[(String, String)]) -> String {
     let mut text =
         "#include \"olsketina.h\"\n#ifdef __cplusplus\n#define CHECK static_assert\n#else\n#define CHECK _Static_assert\n#endif\n"
@@ -81,6 +82,16 @@ fn c_file(exports: &[Exports], lengths: &[(String, String)]) -> String {
         let result = function.result.as_deref().map_or("void", c_number);
         let types = if types.is_empty() { "void".to_string() } else { types.join(", ") };
         text += &format!("{result} (*check_{name})({types}) = {name};\n");
+    }
+    let slot: Vec<&str> = [&["placed"], Region::WORDS].concat();
+    let words =
+        [("LAYOUT", Layout::WORDS), ("BOX", ElementBox::WORDS), ("SLOT", &slot), ("WEIGHTS", Weights::WORDS), ("IMAGE", Image::WORDS)];
+    for (setting, words) in words {
+        for (at, word) in words.iter().enumerate() {
+            let name = format!("OLSKETINA_{setting}_{}", word.to_uppercase());
+            text += &format!("CHECK({name} == {at}, \"{name}\");\n");
+        }
+        text += &format!("CHECK(OLSKETINA_{setting}_WORDS == {}, \"{setting}\");\n", words.len());
     }
     for (source, header) in lengths {
         text += &format!("CHECK(({}) == ({header}), \"{header}\");\n", c_expression(source));
@@ -117,7 +128,7 @@ fn declared(preprocessed: &str) -> Vec<(String, Vec<(String, Option<String>)>)> 
         }
     }
     let mut functions = Vec::new();
-    for declaration in text.split(';').filter(|text| !text.contains("static uint32_t") && !text.trim_start().starts_with("static")) {
+    for declaration in text.split(';').filter(|text| !text.trim_start().starts_with("static")) {
         let Some((head, rest)) = declaration.find("olsketina_").map(|at| declaration.split_at(at)) else { continue };
         let Some((name, parameters)) = rest.split_once('(') else { continue };
         assert!(!head.contains("typedef"), "no type: {declaration}");
@@ -171,13 +182,8 @@ fn check(header: &str, exports: &[Exports], name: &str) -> Result<(), String> {
     let preprocessed = compile(&folder, "cc", &["-std=c11", "-E", "-P", "-x", "c"], "#include \"olsketina.h\"\n")?;
     let declared = declared(&String::from_utf8_lossy(&preprocessed));
     let functions: Vec<&Function> = exports.iter().flat_map(|exports| &exports.functions).collect();
-    for (name, _) in &declared {
-        if !functions.iter().any(|function| function.name == *name) {
-            return Err(format!("{name} is in the header alone"));
-        }
-    }
     let mut lengths = Vec::new();
-    for function in functions {
+    for &function in &functions {
         let name = &function.name;
         let Some((_, parameters)) = declared.iter().find(|(declared, _)| declared == name) else {
             return Err(format!("{name} is not in the header"));
@@ -193,6 +199,9 @@ fn check(header: &str, exports: &[Exports], name: &str) -> Result<(), String> {
                 _ => return Err(format!("{name}: {parameter} has a length on one side alone")),
             }
         }
+    }
+    if let Some((name, _)) = declared.iter().find(|(name, _)| !functions.iter().any(|function| function.name == *name)) {
+        return Err(format!("{name} is in the header alone"));
     }
     for (compiler, [language, standard]) in compilers() {
         let arguments = [&STRICT[..], &[standard, "-x", language]].concat();
@@ -221,9 +230,10 @@ fn a_wrong_header_fails() {
         ("exchanged types", "uint8_t *buffer, size_t buffer_len", "size_t buffer, uint8_t *buffer_len", "incompatible"),
         ("exchanged names", "uint32_t row, uint32_t column", "uint32_t column, uint32_t row", "the parameters"),
         ("another result", "uint32_t olsketina_cube_pack", "uint64_t olsketina_cube_pack", "incompatible"),
-        ("a missing name", "uint32_t olsketina_cube_unpack(", "static uint32_t olsketina_cube_unpack(", "not in the header"),
+        ("a missing name", "olsketina_cube_unpack(", "olsketina_cube_unpacked(", "not in the header"),
         ("an extra name", "#ifdef __cplusplus\n}", "void olsketina_more(void);\n#ifdef __cplusplus\n}", "alone"),
         ("another word count", "#define OLSKETINA_LAYOUT_WORDS 7", "#define OLSKETINA_LAYOUT_WORDS 8", "static assertion"),
+        ("exchanged words", "#define OLSKETINA_IMAGE_START 6", "#define OLSKETINA_IMAGE_START 7", "static assertion"),
         ("another number of slots", "#define OLSKETINA_SLOTS 16", "#define OLSKETINA_SLOTS 15", "static assertion"),
     ];
     for (name, old, new, reason) in wrong {

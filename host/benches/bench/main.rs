@@ -310,8 +310,7 @@ fn packed<S>(setting: S, precision: u32, cells: usize, bytes: usize) -> Packed<S
 }
 
 fn cube(width: u32, height: u32, channels: u32, precision: u32) -> Packed<Layout> {
-    let line = 32 * width;
-    let layout = Layout { width, height, channels, precision, line, surface: line * height, start: 0 };
+    let layout = draw::dense(width, height, channels, precision);
     packed(layout, precision, draw::element_count(layout), draw::buffer_length(layout))
 }
 

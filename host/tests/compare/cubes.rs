@@ -1,7 +1,7 @@
 //! Layouts of cubes, packing and unpacking; boxes through a region over the whole cube.
 
 use crate::both::{start, Both};
-use crate::draw::{box_count, buffer_length, each_pair, element_count, whole, Generator, EDGES, OUTSIDE, PRECISIONS};
+use crate::draw::{box_count, buffer_length, dense, each_pair, element_count, whole, Generator, EDGES, OUTSIDE, PRECISIONS};
 use crate::reference::{self, each};
 use olsketina::{ElementBox, Layout, Table};
 
@@ -39,17 +39,11 @@ impl Both {
     }
 
     fn edit_cube(&mut self, layout: Layout, part: ElementBox, elements: &[i16], buffer: &[u8]) -> Vec<u8> {
-        let table = over_whole(layout);
-        let case = format_args!("{layout:?} {part:?} elements {} buffer {}", elements.len(), buffer.len());
-        let plain = |buffer: &mut [u8]| reference::regions::edit(&table, 15, part, elements, buffer);
-        self.lend("regions_edit", buffer, case, |buffer| table.edit(15, part, elements, buffer), plain)
+        self.edit(&over_whole(layout), 15, part, elements, buffer)
     }
 
     fn read_cube(&mut self, layout: Layout, part: ElementBox, buffer: &[u8], elements: &[i16]) -> Vec<i16> {
-        let table = over_whole(layout);
-        let case = format_args!("{layout:?} {part:?} elements {} buffer {}", elements.len(), buffer.len());
-        let plain = |elements: &mut [i16]| reference::regions::read(&table, 15, part, buffer, elements);
-        self.lend("regions_read", elements, case, |elements| table.read(15, part, buffer, elements), plain)
+        self.read(&over_whole(layout), 15, part, buffer, elements)
     }
 
     /// Every call on one layout, with boxes and lengths at and beside its limits; at most 1,000 elements and bytes are lent.
@@ -372,9 +366,9 @@ fn values_out_of_range_at_every_index() {
 #[test]
 fn every_element() {
     let (mut g, mut both) = start(70);
-    let row = |width: u32, precision| Layout { width, height: 1, channels: 1, precision, line: 32 * width, surface: 32 * width, start: 0 };
+    let row = |width, precision| dense(width, 1, 1, precision);
     let all: Vec<i16> = (i16::MIN..=i16::MAX).collect();
-    let cube = Layout { height: 8, surface: 8 * 32 * 8192, ..row(8192, 1) };
+    let cube = dense(8192, 8, 1, 1);
     let packed = both.pack_cube(cube, &all, &vec![7; buffer_length(cube)]);
     assert_eq!(both.unpack_cube(cube, &packed, &vec![9; all.len()]), all);
     let mut bytes = vec![0; 256 * 32];
@@ -416,7 +410,7 @@ fn boxes_beside_the_cube() {
         let mut sizes = [1; 3];
         sizes[axis] = size;
         let [channels, height, width] = sizes;
-        let layout = Layout { width, height, channels, precision: 0, line: 32 * width, surface: 32 * width * height, start: 0 };
+        let layout = dense(width, height, channels, 0);
         each!(first in EDGES, count in EDGES => {
             let mut part = [0, 0, 0, 1, 1, 1];
             part[axis] = first;

@@ -146,9 +146,14 @@ impl Generator {
     /// Once in `odds` times changes one to three words of a setting to limits, or to a little beside what they were.
     pub fn damage<const N: usize>(&mut self, odds: u64, setting: &mut (impl Copy + Into<[u32; N]> + From<[u32; N]>)) {
         let mut words: [u32; N] = (*setting).into();
+        self.damage_words(odds, &mut words);
+        *setting = words.into();
+    }
+
+    pub fn damage_words(&mut self, odds: u64, words: &mut [u32]) {
         let changes = if self.one_in(odds) { self.among(1, 3) } else { 0 };
         for _ in 0..changes {
-            let at = self.index(N);
+            let at = self.index(words.len());
             words[at] = match self.below(4) {
                 0 => self.pick(&EDGES),
                 1 => words[at].wrapping_add(self.pick(&[1, 32, u32::MAX, u32::MAX - 31])),
@@ -156,7 +161,6 @@ impl Generator {
                 _ => self.pick(&[8192, 8193, 1 << 31, u32::MAX - 31, u32::MAX]),
             };
         }
-        *setting = words.into();
     }
 
     /// The exact length most often, else one that is short, longer or 0.
@@ -195,6 +199,11 @@ impl Generator {
         let ([channel, row, column], [channels, rows, columns]) = (first, count);
         ElementBox { channel, row, column, channels, rows, columns }
     }
+}
+
+/// A layout without gaps, from byte 0 on.
+pub fn dense(width: u32, height: u32, channels: u32, precision: u32) -> Layout {
+    Layout { width, height, channels, precision, line: 32 * width, surface: 32 * width * height, start: 0 }
 }
 
 /// How long a buffer a cube needs: start plus extent. The layout is valid.

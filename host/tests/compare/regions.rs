@@ -5,6 +5,20 @@ use crate::draw::{box_count, buffer_length, Generator, EDGES, OUTSIDE};
 use crate::reference::{self, each};
 use olsketina::{Answer, ElementBox, Layout, Region, Table};
 
+impl Both {
+    pub fn edit(&mut self, table: &Table, slot: u32, part: ElementBox, elements: &[i16], buffer: &[u8]) -> Vec<u8> {
+        let case = format_args!("slot {slot} {part:?} elements {} buffer {} {table:?}", elements.len(), buffer.len());
+        let plain = |buffer: &mut [u8]| reference::regions::edit(table, slot, part, elements, buffer);
+        self.lend("regions_edit", buffer, case, |buffer| table.edit(slot, part, elements, buffer), plain)
+    }
+
+    pub fn read(&mut self, table: &Table, slot: u32, part: ElementBox, buffer: &[u8], elements: &[i16]) -> Vec<i16> {
+        let case = format_args!("slot {slot} {part:?} elements {} buffer {} {table:?}", elements.len(), buffer.len());
+        let plain = |elements: &mut [i16]| reference::regions::read(table, slot, part, buffer, elements);
+        self.lend("regions_read", elements, case, |elements| table.read(slot, part, buffer, elements), plain)
+    }
+}
+
 /// A table and a buffer, alike on both sides after every call, and the cases compared.
 struct Session {
     table: Table,
@@ -34,26 +48,16 @@ impl Session {
         answer
     }
 
+    /// Writes a box; whether that was accepted.
     fn edit(&mut self, slot: u32, part: ElementBox, elements: &[i16]) -> bool {
-        let (before, table) = (std::mem::take(&mut self.buffer), self.table);
-        let case = format_args!("slot {slot} {part:?} elements {} buffer {} {table:?}", elements.len(), before.len());
-        let mut accepted = false;
-        let plain = |buffer: &mut [u8]| reference::regions::edit(&table, slot, part, elements, buffer);
-        let library = |buffer: &mut [u8]| {
-            let answer = table.edit(slot, part, elements, buffer);
-            accepted = answer.is_ok();
-            answer
-        };
-        self.buffer = self.both.lend("regions_edit", &before, case, library, plain);
+        let accepted = self.table.edit(slot, part, elements, &mut self.buffer.clone()).is_ok();
+        self.buffer = self.both.edit(&self.table, slot, part, elements, &self.buffer);
         accepted
     }
 
     /// Reads over old elements; gives the elements afterwards.
     fn read(&mut self, slot: u32, part: ElementBox, old: &[i16]) -> Vec<i16> {
-        let Session { table, buffer, .. } = self;
-        let case = format_args!("slot {slot} {part:?} elements {} buffer {} {table:?}", old.len(), buffer.len());
-        let plain = |elements: &mut [i16]| reference::regions::read(table, slot, part, buffer, elements);
-        self.both.lend("regions_read", old, case, |elements| table.read(slot, part, buffer, elements), plain)
+        self.both.read(&self.table, slot, part, &self.buffer, old)
     }
 
     fn position(&mut self, slot: u32, [channel, row, column]: [u32; 3]) {

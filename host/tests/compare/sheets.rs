@@ -101,23 +101,13 @@ fn joined(name: &str, numbers: &[u32]) -> Vec<u8> {
 
 /// A readable record, whose numbers are right most often.
 fn good_line(g: &mut Generator) -> Vec<u8> {
-    match g.below(8) {
-        0 => {
-            let mut layout: [u32; 7] = g.small_layout().into();
-            g.damage(2, &mut layout);
-            joined("frame", &layout)
-        }
-        1..=4 => {
-            let mut stall = [g.among(0, 4), g.among(0, 5), g.among(0, 2), g.among(1, 4), g.among(1, 2)];
-            g.damage(6, &mut stall);
-            joined("stall", &stall)
-        }
-        _ => {
-            let mut cell = [g.among(0, 4), g.among(0, 20), g.among(0, 1), g.among(0, 2)];
-            g.damage(6, &mut cell);
-            joined("cell", &cell)
-        }
-    }
+    let (name, odds, mut numbers) = match g.below(8) {
+        0 => ("frame", 2, <[u32; 7]>::from(g.small_layout()).to_vec()),
+        1..=4 => ("stall", 6, vec![g.among(0, 4), g.among(0, 5), g.among(0, 2), g.among(1, 4), g.among(1, 2)]),
+        _ => ("cell", 6, vec![g.among(0, 4), g.among(0, 20), g.among(0, 1), g.among(0, 2)]),
+    };
+    g.damage_words(odds, &mut numbers);
+    joined(name, &numbers)
 }
 
 /// A line of any kind, unreadable ones among them.

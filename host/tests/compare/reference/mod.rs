@@ -10,6 +10,7 @@ macro_rules! each {
     };
     (=> $body:block) => { $body };
 }
+#[allow(unused_imports)]
 pub(crate) use each;
 
 pub mod camera;
