@@ -321,7 +321,7 @@ fn weights(words: [u32; 5]) -> Packed<Weights> {
     packed(weights, weights.precision, of(reference::weights::count(weights)), of(reference::weights::extent(weights)))
 }
 
-/// A job of one call with a setting, from a slice to a slice; `cells` is what the time is divided by.
+/// A job of one call with a setting, from a slice to a slice.
 fn convey<S: Copy + Into<[u32; N]>, I: Copy, O: Copy + Default + PartialEq, const N: usize>(
     job: Job<I, O>, setting: S, call: fn(&Library) -> Call<N, I, O>, plain: fn(&S, &[I], &mut [O]) -> Answer<()>,
 ) -> Row {
@@ -332,34 +332,18 @@ fn convey<S: Copy + Into<[u32; N]>, I: Copy, O: Copy + Default + PartialEq, cons
     )
 }
 
-fn packing<S>(name: &str, repetitions: usize, of: Packed<S>) -> (Job<i16, u8>, S) {
+fn pack<S: Copy + Into<[u32; N]>, const N: usize>(
+    name: &str, repetitions: usize, of: Packed<S>, call: fn(&Library) -> Call<N, i16, u8>, plain: fn(&S, &[i16], &mut [u8]) -> Answer<()>,
+) -> Row {
     let left = vec![LEFT; of.bytes.len()];
-    (Job::new(name, repetitions, of.elements.len(), of.elements, left), of.setting)
+    convey(Job::new(name, repetitions, of.elements.len(), of.elements, left), of.setting, call, plain)
 }
 
-fn unpacking<S>(name: &str, repetitions: usize, of: Packed<S>) -> (Job<u8, i16>, S) {
+fn unpack<S: Copy + Into<[u32; N]>, const N: usize>(
+    name: &str, repetitions: usize, of: Packed<S>, call: fn(&Library) -> Call<N, u8, i16>, plain: fn(&S, &[u8], &mut [i16]) -> Answer<()>,
+) -> Row {
     let cells = of.elements.len();
-    (Job::new(name, repetitions, cells, of.bytes, vec![0; cells]), of.setting)
-}
-
-fn pack(name: &str, of: Packed<Layout>) -> Row {
-    let (job, layout) = packing(name, 41, of);
-    convey(job, layout, |library| library.cube_pack, loops::pack)
-}
-
-fn unpack(name: &str, of: Packed<Layout>) -> Row {
-    let (job, layout) = unpacking(name, 41, of);
-    convey(job, layout, |library| library.cube_unpack, loops::unpack)
-}
-
-fn pack_weights(name: &str, words: [u32; 5]) -> Row {
-    let (job, weights) = packing(name, 1001, weights(words));
-    convey(job, weights, |library| library.weights_pack, loops::pack_weights)
-}
-
-fn unpack_weights(name: &str, words: [u32; 5]) -> Row {
-    let (job, weights) = unpacking(name, 1001, weights(words));
-    convey(job, weights, |library| library.weights_unpack, loops::unpack_weights)
+    convey(Job::new(name, repetitions, cells, of.bytes, vec![0; cells]), of.setting, call, plain)
 }
 
 /// A box of 64×64 over all channels, which fill their atoms, in a region of 128×128.
@@ -491,20 +475,25 @@ fn main() {
     const FEW: usize = 64_000;
     let large = || cube(640, 480, 32, 0);
     let wide = || cube(1024, 64, 64, 1);
+    let [kernels, points] = [[256, 256, 3, 3, 0], [256, 256, 1, 1, 0]];
+    let pack_cube = |name, of| pack(name, 41, of, |library| library.cube_pack, loops::pack);
+    let unpack_cube = |name, of| unpack(name, 41, of, |library| library.cube_unpack, loops::unpack);
+    let pack_weights = |name, words| pack(name, 1001, weights(words), |library| library.weights_pack, loops::pack_weights);
+    let unpack_weights = |name, words| unpack(name, 1001, weights(words), |library| library.weights_unpack, loops::unpack_weights);
     let mut rows = vec![
-        pack("pack 640×480×32 int8", large()),
-        pack("pack 640×480×12 int8", cube(640, 480, 12, 0)),
-        pack("pack 640×480×4 int8", cube(640, 480, 4, 0)),
-        pack("pack 640×480×3 int8", cube(640, 480, 3, 0)),
-        pack("pack 1024×64×64 int16", wide()),
-        unpack("unpack 640×480×32 int8", large()),
-        unpack("unpack 1024×64×64 int16", wide()),
+        pack_cube("pack 640×480×32 int8", large()),
+        pack_cube("pack 640×480×12 int8", cube(640, 480, 12, 0)),
+        pack_cube("pack 640×480×4 int8", cube(640, 480, 4, 0)),
+        pack_cube("pack 640×480×3 int8", cube(640, 480, 3, 0)),
+        pack_cube("pack 1024×64×64 int16", wide()),
+        unpack_cube("unpack 640×480×32 int8", large()),
+        unpack_cube("unpack 1024×64×64 int16", wide()),
         edit("edit 64×64 over 32 channels int8", large()),
         edit("edit 64×64 over 32 channels int16", cube(640, 480, 32, 1)),
-        pack_weights("weights 256×256×3×3 int8", [256, 256, 3, 3, 0]),
-        pack_weights("weights 256×256×1×1 int8", [256, 256, 1, 1, 0]),
-        unpack_weights("unpack weights 256×256×3×3 int8", [256, 256, 3, 3, 0]),
-        unpack_weights("unpack weights 256×256×1×1 int8", [256, 256, 1, 1, 0]),
+        pack_weights("weights 256×256×3×3 int8", kernels),
+        pack_weights("weights 256×256×1×1 int8", points),
+        unpack_weights("unpack weights 256×256×3×3 int8", kernels),
+        unpack_weights("unpack weights 256×256×1×1 int8", points),
     ];
     let linear = settings(Mode::Linear, 6, 0, 4096, 2048);
     let exponential = settings(Mode::Exponential, 3, 2048, i32::MAX, 0);

@@ -36,6 +36,8 @@ pub fn same<T: PartialEq + Debug>(what: &str, library: &[T], reference: &[T], ca
 #[derive(Default)]
 pub struct Both {
     counts: BTreeMap<&'static str, BTreeMap<u32, u64>>,
+    /// The number of the last case's answer.
+    pub last: u32,
 }
 
 impl Both {
@@ -62,6 +64,7 @@ impl Both {
 
     pub fn note(&mut self, call: &'static str, number: u32) {
         *self.counts.entry(call).or_default().entry(number).or_insert(0) += 1;
+        self.last = number;
     }
 
     /// Prints the counts; fails unless these calls gave these answers, and no other ones.

@@ -28,7 +28,7 @@ struct Session {
 
 impl Session {
     fn new() -> Session {
-        Session { table: Table::from_words([0; 87]), buffer: Vec::new(), both: Both::default() }
+        Session { table: Table::from_words([0; Table::WORDS]), buffer: Vec::new(), both: Both::default() }
     }
 
     /// Goes on with an empty table.
@@ -50,9 +50,8 @@ impl Session {
 
     /// Writes a box; whether that was accepted.
     fn edit(&mut self, slot: u32, part: ElementBox, elements: &[i16]) -> bool {
-        let accepted = self.table.edit(slot, part, elements, &mut self.buffer.clone()).is_ok();
         self.buffer = self.both.edit(&self.table, slot, part, elements, &self.buffer);
-        accepted
+        self.both.last == 0
     }
 
     /// Reads over old elements; gives the elements afterwards.
