@@ -81,34 +81,31 @@ fn slope(g: &mut Generator) -> Slope {
     Slope { scale, shift: g.between(-16, 15) as i32 }
 }
 
+/// A valid linear table of last + 1 entries, its select from `low` to `high`.
+fn linear(g: &mut Generator, last: i64, low: i64, high: i64) -> TableSettings {
+    let select = g.between(low, high) as i32;
+    let start = start(g, last, select);
+    TableSettings { select, start, end: end(start, last, select) as i32, below: slope(g), above: slope(g) }
+}
+
 /// Valid settings.
 fn settings(g: &mut Generator, mode: Mode) -> Lookup {
-    let (select, x_start, x_end) = match mode {
-        Mode::Linear => {
-            let select = g.between(-6, 25) as i32;
-            let start = start(g, 64, select);
-            (select, start, end(start, 64, select) as i32)
-        }
-        Mode::Exponential => {
-            let offset = g.between(-32, 31) as i32;
-            let start = match g.below(4) {
-                0 => g.pick(&[i32::MIN, -1, 0, 1, i32::MAX - 1, i32::MAX]),
-                1 => held(g.between(-300, 300)),
-                _ => g.word() as i32,
-            };
-            (offset, start, i32::MAX)
-        }
-    };
-    let x = TableSettings { select, start: x_start, end: x_end, below: slope(g), above: slope(g) };
-    let select = g.between(-8, 23) as i32;
-    let mut y_start = start(g, 256, select);
+    let mut x = linear(g, 64, -6, 25);
+    if mode == Mode::Exponential {
+        (x.select, x.end) = (g.between(-32, 31) as i32, i32::MAX);
+        x.start = match g.below(4) {
+            0 => g.pick(&[i32::MIN, -1, 0, 1, i32::MAX - 1, i32::MAX]),
+            1 => held(g.between(-300, 300)),
+            _ => g.word() as i32,
+        };
+    }
+    let mut y = linear(g, 256, -8, 23);
     if g.one_in(2) {
         // Beside the X table, so that both hit now and then.
-        let greatest = i64::from(i32::MAX) - end(0, 256, select);
-        y_start = held((i64::from(x_start) + g.between(-70, 70)).min(greatest));
+        let greatest = i64::from(i32::MAX) - end(0, 256, y.select);
+        y.start = held((i64::from(x.start) + g.between(-70, 70)).min(greatest));
+        y.end = end(y.start, 256, y.select) as i32;
     }
-    let y_end = end(y_start, 256, select) as i32;
-    let y = TableSettings { select, start: y_start, end: y_end, below: slope(g), above: slope(g) };
     let [priority, overflow, underflow] = [g.one_in(2), g.one_in(2), g.one_in(2)];
     Lookup { mode, x, y, priority, overflow, underflow }
 }
