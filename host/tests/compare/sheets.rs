@@ -1,9 +1,9 @@
 //! Sheets: whole ones and parts of them, records of every kind, states of any words.
 
-use crate::both::{number, same, Both};
+use crate::both::{number, same, start, Both};
 use crate::draw::{Generator, EDGES};
 use crate::reference::{self, each};
-use olsketina::{Row, Sheet};
+use olsketina::{Refusal, Row, Sheet};
 
 /// A sheet in progress, alike on both sides after every part, and the counts of the answers of its lines.
 struct Session {
@@ -331,6 +331,21 @@ fn records() {
         session.line(&framed, &line);
     }
     session.both.expect(ANSWERS);
+}
+
+/// What is printed of rows of any numbers.
+#[test]
+fn texts() {
+    let (mut g, mut both) = start(104);
+    each!(digits in 0..64, number in EDGES, _ in 0..10 => {
+        let [line, value] = [g.word() >> digits, g.word() >> g.below(64)];
+        let answer = if number == 0 { Ok(value) } else { Err(Refusal { number, fault: 0 }) };
+        let row = Row { line, answer };
+        same("row's text", &row.text(), &reference::sheet::text(&row), format_args!("{row:?}"));
+        both.note("script_row_text", 0);
+    });
+    assert_eq!(Row { line: u64::MAX, answer: Ok(u64::MAX) }.text(), b"18446744073709551615\t0\t18446744073709551615\n");
+    both.expect("script_row_text: 0");
 }
 
 /// Numbers at and past their limits, in every field of every record.
