@@ -3,7 +3,7 @@
 
 use crate::both::{same, start};
 use crate::draw::{box_count, buffer_length, element_count};
-use crate::reference;
+use crate::reference::{self, each, require};
 use olsketina::{Answer, ElementBox, Layout, Refusal, Region, Table};
 
 /// The plain picture. Its layout is valid.
@@ -12,10 +12,6 @@ struct Picture {
     length: usize,
     elements: Vec<i16>,
     slots: [Option<Region>; 16],
-}
-
-fn refuse<T>(number: u32) -> Answer<T> {
-    Err(Refusal { number, fault: 0 })
 }
 
 /// The positions of a region, or of any span of columns and rows.
@@ -28,47 +24,32 @@ impl Picture {
     fn place(&mut self, slot: u32, region: Region) -> Answer<()> {
         let [column, row, columns, rows] = <[u32; 4]>::from(region).map(u64::from);
         let [width, height] = [self.layout.width, self.layout.height].map(u64::from);
-        if slot > 15 || self.slots[slot as usize].is_some() {
-            return refuse(8);
-        }
-        if columns == 0 || rows == 0 || column + columns > width || row + rows > height {
-            return refuse(9);
-        }
-        for y in row..row + rows {
-            for x in column..column + columns {
-                if self.slots.iter().flatten().any(|&other| covers(other, x, y)) {
-                    return refuse(10);
-                }
-            }
-        }
+        require(slot <= 15 && self.slots[slot as usize].is_none(), 8)?;
+        require(columns > 0 && rows > 0 && column + columns <= width && row + rows <= height, 9)?;
+        each!(y in row..row + rows, x in column..column + columns => {
+            require(!self.slots.iter().flatten().any(|&other| covers(other, x, y)), 10)?;
+        });
         self.slots[slot as usize] = Some(region);
         Ok(())
     }
 
     /// The raw indices of a box's elements, in raw order over the box.
     fn indices(&self, slot: u32, part: ElementBox, given: usize) -> Answer<Vec<usize>> {
-        let Some(&Some(region)) = self.slots.get(slot as usize) else { return refuse(8) };
+        let region = self.slots.get(slot as usize).copied().flatten();
+        require(region.is_some(), 8)?;
+        let region = region.unwrap_or_default();
         let [left, top, across, down] = <[u32; 4]>::from(region).map(u64::from);
         let [channel, row, column, channels, rows, columns] = <[u32; 6]>::from(part).map(u64::from);
         let [width, height, depth, ..] = <[u32; 7]>::from(self.layout).map(u64::from);
-        let empty = channels == 0 || rows == 0 || columns == 0;
-        if empty || channel + channels > depth || row + rows > down || column + columns > across {
-            return refuse(9);
-        }
-        if given as u64 != channels * rows * columns {
-            return refuse(6);
-        }
-        if self.length < buffer_length(self.layout) {
-            return refuse(5);
-        }
+        let inside = channel + channels <= depth && row + rows <= down && column + columns <= across;
+        require(channels > 0 && rows > 0 && columns > 0 && inside, 9)?;
+        require(given as u64 == channels * rows * columns, 6)?;
+        require(self.length >= buffer_length(self.layout), 5)?;
+        let (row, column) = (top + row, left + column);
         let mut indices = Vec::with_capacity(given);
-        for c in channel..channel + channels {
-            for h in top + row..top + row + rows {
-                for w in left + column..left + column + columns {
-                    indices.push(((c * height + h) * width + w) as usize);
-                }
-            }
-        }
+        each!(c in channel..channel + channels, h in row..row + rows, w in column..column + columns => {
+            indices.push(((c * height + h) * width + w) as usize);
+        });
         Ok(indices)
     }
 
