@@ -112,8 +112,11 @@ fn compile(folder: &Path, compiler: &str, arguments: &[&str], text: &str) -> Res
     }
 }
 
-/// The functions that a header declares (not those that it defines): names, with each parameter's name and length.
-fn declared(preprocessed: &str) -> Vec<(String, Vec<(String, Option<String>)>)> {
+/// A function's name, and each parameter's name and length.
+type Declared = (String, Vec<(String, Option<String>)>);
+
+/// The functions that a header declares, not those that it defines.
+fn declared(preprocessed: &str) -> Vec<Declared> {
     let mut text = String::new();
     let mut depth = 0;
     for letter in preprocessed.chars() {

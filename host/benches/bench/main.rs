@@ -109,23 +109,17 @@ impl<T> DerefMut for Lent<T> {
 
 // ---- measuring
 
-#[repr(C)]
-struct TimeSpec {
-    seconds: i64,
-    nanoseconds: i64,
-}
-
 extern "C" {
-    fn clock_gettime(clock: i32, time: *mut TimeSpec) -> i32;
+    /// Stores seconds and nanoseconds.
+    fn clock_gettime(clock: i32, time: &mut [i64; 2]) -> i32;
 }
 
 /// Nanoseconds that this thread has been running: time in which another program had the processor does not count.
 fn thread_time() -> f64 {
     const CLOCK_THREAD_CPUTIME_ID: i32 = 3;
-    let mut time = TimeSpec { seconds: 0, nanoseconds: 0 };
-    let answer = unsafe { clock_gettime(CLOCK_THREAD_CPUTIME_ID, &mut time) };
-    assert_eq!(answer, 0, "no thread clock");
-    (1_000_000_000 * time.seconds + time.nanoseconds) as f64
+    let mut time = [0; 2];
+    assert_eq!(unsafe { clock_gettime(CLOCK_THREAD_CPUTIME_ID, &mut time) }, 0, "no thread clock");
+    (1_000_000_000 * time[0] + time[1]) as f64
 }
 
 /// What reading the clock adds to a measured time.

@@ -1,40 +1,13 @@
 //! A small generator of pseudorandom numbers, and the settings and lengths that the tests draw from it.
 
-use crate::reference;
+use crate::reference::{self, each};
 use olsketina::{ElementBox, Layout};
 
 /// Words at and beside the limits.
+#[rustfmt::skip]
 pub const EDGES: [u32; 30] = [
-    0,
-    1,
-    2,
-    3,
-    4,
-    5,
-    15,
-    16,
-    17,
-    31,
-    32,
-    33,
-    63,
-    64,
-    65,
-    96,
-    128,
-    256,
-    8191,
-    8192,
-    8193,
-    65535,
-    65536,
-    262144,
-    (1 << 31) - 1,
-    1 << 31,
-    (1 << 31) + 32,
-    u32::MAX - 32,
-    u32::MAX - 31,
-    u32::MAX,
+    0, 1, 2, 3, 4, 5, 15, 16, 17, 31, 32, 33, 63, 64, 65, 96, 128, 256, 8191, 8192, 8193, 65535, 65536, 262144,
+    (1 << 31) - 1, 1 << 31, (1 << 31) + 32, u32::MAX - 32, u32::MAX - 31, u32::MAX,
 ];
 
 /// Precision codes, unknown ones among them.
@@ -45,18 +18,12 @@ pub const OUTSIDE: [i16; 6] = [128, -129, i16::MAX, i16::MIN, 127, -128];
 
 /// Calls `take` with each copy of `base` in which two words, or one, are at the limits.
 pub fn each_pair<const N: usize>(base: [u32; N], mut take: impl FnMut([u32; N])) {
-    for first in 0..N {
-        for second in first..N {
-            for one in EDGES {
-                for other in EDGES {
-                    let mut words = base;
-                    words[first] = one;
-                    words[second] = other;
-                    take(words);
-                }
-            }
-        }
-    }
+    each!(first in 0..N, second in first..N, one in EDGES, other in EDGES => {
+        let mut words = base;
+        words[first] = one;
+        words[second] = other;
+        take(words);
+    });
 }
 
 /// xorshift64*.

@@ -42,6 +42,6 @@ pub fn check_values(precision: u32, elements: &[i16]) -> Answer<()> {
     if precision != 0 || !elements.iter().fold(false, |any, element| any | outside(element)) {
         return Ok(());
     }
-    let fault = elements.iter().position(|element| outside(element)).unwrap_or(0);
+    let fault = elements.iter().position(outside).unwrap_or(0);
     Err(Refusal { number: Refusal::INT8_RANGE, fault })
 }

@@ -10,7 +10,6 @@ macro_rules! each {
     };
     (=> $body:block) => { $body };
 }
-#[allow(unused_imports)]
 pub(crate) use each;
 
 pub mod camera;

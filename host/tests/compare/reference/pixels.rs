@@ -28,7 +28,7 @@ fn checked(image: Image) -> Answer<i128> {
     require(image.x_offset <= greatest, Refusal::X_OFFSET)?;
     let least = (i128::from(image.x_offset) + i128::from(image.width)) * i128::from(bytes);
     let long = i128::from(image.line) >= least;
-    require(image.start % 32 == 0 && image.line % 32 == 0 && long, Refusal::PIXEL_STRIDES)?;
+    require(image.start.is_multiple_of(32) && image.line.is_multiple_of(32) && long, Refusal::PIXEL_STRIDES)?;
     Ok(bytes.into())
 }
 
