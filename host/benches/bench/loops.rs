@@ -130,15 +130,18 @@ pub fn pack_weights(layout: &Weights, elements: &[i16], buffer: &mut [u8]) -> An
     let places = (layout.rows * layout.columns) as usize;
     let bytes = element_bytes(layout.precision);
     let end = walk(layout, |at, raw, block| {
-        let kernel = elements[raw..raw + (block - 1) * places + 1].iter().step_by(places);
+        let kernel = &elements[raw..raw + (block - 1) * places + 1];
         let out = &mut buffer[at..at + block * bytes];
+        let mut i = 0;
         if bytes == 1 {
-            for (byte, &v) in out.iter_mut().zip(kernel) {
-                *byte = v as u8;
+            for byte in out {
+                *byte = kernel[i] as u8;
+                i += places;
             }
         } else {
-            for (pair, &v) in out.chunks_exact_mut(2).zip(kernel) {
-                pair.copy_from_slice(&v.to_le_bytes());
+            for pair in out.chunks_exact_mut(2) {
+                pair.copy_from_slice(&kernel[i].to_le_bytes());
+                i += places;
             }
         }
     });
@@ -152,15 +155,18 @@ pub fn unpack_weights(layout: &Weights, buffer: &[u8], elements: &mut [i16]) -> 
     let places = (layout.rows * layout.columns) as usize;
     let bytes = element_bytes(layout.precision);
     walk(layout, |at, raw, block| {
-        let kernel = elements[raw..raw + (block - 1) * places + 1].iter_mut().step_by(places);
+        let kernel = &mut elements[raw..raw + (block - 1) * places + 1];
         let from = &buffer[at..at + block * bytes];
+        let mut i = 0;
         if bytes == 1 {
-            for (v, &byte) in kernel.zip(from) {
-                *v = i16::from(byte as i8);
+            for &byte in from {
+                kernel[i] = i16::from(byte as i8);
+                i += places;
             }
         } else {
-            for (v, pair) in kernel.zip(from.chunks_exact(2)) {
-                *v = i16::from_le_bytes([pair[0], pair[1]]);
+            for pair in from.chunks_exact(2) {
+                kernel[i] = i16::from_le_bytes([pair[0], pair[1]]);
+                i += places;
             }
         }
     });
