@@ -65,7 +65,7 @@ fn c_expression(text: &str) -> String {
     c
 }
 
-/// The C file of typed function pointers, constants, array lengths, and the words of settings in the order of the Rust structs.
+/// The C file of typed function pointers, constants, array lengths, and the words of settings in the order of the Rust library.
 fn c_file(exports: &[Exports], lengths: &[(String, String)]) -> String {
     let mut text =
         "#include \"olsketina.h\"\n#ifdef __cplusplus\n#define CHECK static_assert\n#else\n#define CHECK _Static_assert\n#endif\n"
@@ -83,15 +83,24 @@ fn c_file(exports: &[Exports], lengths: &[(String, String)]) -> String {
         let types = if types.is_empty() { "void".to_string() } else { types.join(", ") };
         text += &format!("{result} (*check_{name})({types}) = {name};\n");
     }
-    let slot: Vec<&str> = [&["placed"], Region::WORDS].concat();
-    let words =
-        [("LAYOUT", Layout::WORDS), ("BOX", ElementBox::WORDS), ("SLOT", &slot), ("WEIGHTS", Weights::WORDS), ("IMAGE", Image::WORDS)];
+    let slot = [&["placed"], Region::WORDS].concat();
+    let words: [(&str, &[&str]); 10] = [
+        ("LAYOUT", Layout::WORDS),
+        ("BOX", ElementBox::WORDS),
+        ("SLOT", &slot),
+        ("WEIGHTS", Weights::WORDS),
+        ("IMAGE", Image::WORDS),
+        ("SETTINGS", &["select", "start", "end"]),
+        ("SLOPE", &["x_below", "x_above", "y_below", "y_above"]),
+        ("COUNTER", &["x", "y", "underflow", "overflow", "priority"]),
+        ("STATE", &["lines_low", "lines_high", "length", "framed", "table"]),
+        ("ROW", &["ended", "line", "answer", "fault", "value"]),
+    ];
     for (setting, words) in words {
         for (at, word) in words.iter().enumerate() {
             let name = format!("OLSKETINA_{setting}_{}", word.to_uppercase());
             text += &format!("CHECK({name} == {at}, \"{name}\");\n");
         }
-        text += &format!("CHECK(OLSKETINA_{setting}_WORDS == {}, \"{setting}\");\n", words.len());
     }
     for (source, header) in lengths {
         text += &format!("CHECK(({}) == ({header}), \"{header}\");\n", c_expression(source));
