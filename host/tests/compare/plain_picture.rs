@@ -3,7 +3,7 @@
 
 use crate::both::{same, start};
 use crate::draw::{box_count, buffer_length, element_count};
-use crate::reference::{self, each, require};
+use crate::reference::{self, each, refuse, require};
 use olsketina::{Answer, ElementBox, Layout, Refusal, Region, Table};
 
 /// The plain picture. Its layout is valid.
@@ -35,9 +35,7 @@ impl Picture {
 
     /// The raw indices of a box's elements, in raw order over the box.
     fn indices(&self, slot: u32, part: ElementBox, given: usize) -> Answer<Vec<usize>> {
-        let region = self.slots.get(slot as usize).copied().flatten();
-        require(region.is_some(), 8)?;
-        let region = region.unwrap_or_default();
+        let Some(&Some(region)) = self.slots.get(slot as usize) else { return refuse(8) };
         let [left, top, across, down] = <[u32; 4]>::from(region).map(u64::from);
         let [channel, row, column, channels, rows, columns] = <[u32; 6]>::from(part).map(u64::from);
         let [width, height, depth, ..] = <[u32; 7]>::from(self.layout).map(u64::from);

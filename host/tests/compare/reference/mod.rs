@@ -24,11 +24,15 @@ pub mod weights;
 
 use olsketina::{Answer, Refusal};
 
+pub fn refuse<T>(number: u32) -> Answer<T> {
+    Err(Refusal { number, fault: 0 })
+}
+
 /// Refuses with `number` unless the rule holds.
 pub fn require(rule: bool, number: u32) -> Answer<()> {
     if rule {
         Ok(())
     } else {
-        Err(Refusal { number, fault: 0 })
+        refuse(number)
     }
 }

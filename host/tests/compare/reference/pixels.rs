@@ -1,6 +1,6 @@
 //! Pixel images in one plane: the seventeen formats, a setting's rules, positions.
 
-use super::require;
+use super::{refuse, require};
 use olsketina::{Answer, Image, Refusal};
 
 /// Channels, bytes a pixel, precision and greatest X offset of a format code (the scope paper's table, row by row).
@@ -19,9 +19,7 @@ pub fn format(code: u32) -> Option<[u32; 4]> {
 
 /// The bytes of a pixel, once the setting is checked.
 fn checked(image: Image) -> Answer<i128> {
-    let format = format(image.format);
-    require(format.is_some(), Refusal::PIXEL_FORMAT)?;
-    let [channels, bytes, precision, greatest] = format.unwrap_or_default();
+    let Some([channels, bytes, precision, greatest]) = format(image.format) else { return refuse(Refusal::PIXEL_FORMAT) };
     let size = |size| (1..=8192).contains(&size);
     require(size(image.width) && size(image.height), Refusal::SIZE)?;
     require(image.channels == channels && image.precision == precision, Refusal::PIXEL_KIND)?;

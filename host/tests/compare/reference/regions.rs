@@ -2,7 +2,7 @@
 
 use super::cube::{checked, Cube};
 use super::elements::{check_count, check_values, read as read_element, write};
-use super::require;
+use super::{refuse, require};
 use olsketina::{Answer, ElementBox, Layout, Refusal, Region, Table};
 
 /// First column and row, columns, rows.
@@ -49,9 +49,7 @@ pub struct InCube {
 fn named(table: &Table, slot: u32, part: ElementBox) -> Answer<InCube> {
     let (layout, regions) = parts(table);
     let cube = checked(layout)?;
-    let region = regions.get(slot as usize).copied().flatten();
-    require(region.is_some(), Refusal::SLOT)?;
-    let region = region.unwrap_or_default();
+    let Some(&Some(region)) = regions.get(slot as usize) else { return refuse(Refusal::SLOT) };
     require(inside(region, &cube), Refusal::BOUNDS)?;
     let [left, top, across, down] = numbers(region);
     let [channel, row, column, channels, rows, columns] = <[u32; 6]>::from(part).map(i128::from);

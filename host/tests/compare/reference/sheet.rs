@@ -1,6 +1,6 @@
 //! Sheets: records, and the state between the parts of the input.
 
-use super::{cube, regions, require};
+use super::{cube, refuse, regions};
 use olsketina::{Answer, Refusal, Row, Sheet, Table};
 
 const LONGEST_LINE: u32 = 120;
@@ -57,9 +57,9 @@ const TABLE: usize = 4;
 /// The value of a record; an accepted frame or stall changes the state.
 fn apply(state: &mut [u32; 91], record: Option<Record>) -> Answer<u64> {
     let mut table = Table::from_words(std::array::from_fn(|at| state[TABLE + at]));
-    require(record.is_some(), Refusal::SCRIPT_LINE)?;
     let framed = state[FRAMED] != 0;
     let value = match record {
+        None => return refuse(Refusal::SCRIPT_LINE),
         Some(Record::Frame(words)) => {
             let extent = cube::extent(words.into())?;
             table = regions::empty(words.into());
@@ -68,13 +68,12 @@ fn apply(state: &mut [u32; 91], record: Option<Record>) -> Answer<u64> {
             }
             extent
         }
-        _ if !framed => return Err(Refusal { number: Refusal::SIZE, fault: 0 }),
+        _ if !framed => return refuse(Refusal::SIZE),
         Some(Record::Stall([slot, column, row, columns, rows])) => {
             regions::place(&mut table, slot, [column, row, columns, rows].into())?;
             [columns, rows, table.words()[2]].map(u64::from).iter().product()
         }
         Some(Record::Cell([slot, channel, row, column])) => regions::position(&table, slot, channel, row, column)?,
-        None => 0,
     };
     state[TABLE..].copy_from_slice(table.words());
     Ok(value)
