@@ -84,17 +84,9 @@ impl Both {
         self.unpack_cube(layout, &old, &blank);
     }
 
-    /// Writes a box over old contents and reads it again, both accepted.
+    /// A box of the whole cube's region, written and read.
     fn box_trip(&mut self, g: &mut Generator, layout: Layout, part: impl Into<ElementBox>) {
-        let part = part.into();
-        let count = box_count(part);
-        let longer = g.pick(&[0, 0, 1, 31, 64]);
-        let elements = g.elements(layout.precision, count);
-        let old = g.bytes(buffer_length(layout) + longer);
-        let written = self.edit_cube(layout, part, &elements, &old);
-        let blank = g.any_elements(count);
-        assert_eq!(self.read_cube(layout, part, &written, &blank), elements, "read after edit: {layout:?} {part:?}");
-        self.read_cube(layout, part, &old, &blank);
+        self.region_trip(g, &over_whole(layout), 15, part.into());
     }
 }
 

@@ -17,6 +17,18 @@ impl Both {
         let plain = |elements: &mut [i16]| reference::regions::read(table, slot, part, buffer, elements);
         self.lend("regions_read", elements, case, |elements| table.read(slot, part, buffer, elements), plain)
     }
+
+    /// Writes a box over old contents and reads it again, both accepted.
+    pub fn region_trip(&mut self, g: &mut Generator, table: &Table, slot: u32, part: ElementBox) {
+        let layout = table.layout();
+        let longer = g.pick(&[0, 0, 1, 31, 64]);
+        let elements = g.elements(layout.precision, box_count(part));
+        let old = g.bytes(buffer_length(layout) + longer);
+        let written = self.edit(table, slot, part, &elements, &old);
+        let blank = g.any_elements(elements.len());
+        assert_eq!(self.read(table, slot, part, &written, &blank), elements, "read after edit: {part:?} {table:?}");
+        self.read(table, slot, part, &old, &blank);
+    }
 }
 
 /// A table and a buffer, alike on both sides after every call, and the cases compared.
@@ -264,16 +276,11 @@ fn boxes_of_every_width_and_channel_count() {
         let depth = channel + channels + g.among(0, 3);
         let width = left + region[2] + g.among(0, 2);
         let layout = g.layout(width, top + region[3], depth, precision);
-        let buffer = g.bytes(buffer_length(layout));
-        session.empty(layout, buffer);
+        session.empty(layout, Vec::new());
         let slot = g.among(0, 15);
         assert!(session.place(slot, region).is_ok());
         let part = ElementBox { channel, row, column, channels, rows, columns };
-        let old = g.any_elements(box_count(part));
-        session.read(slot, part, &old);
-        let elements = g.elements(precision, old.len());
-        assert!(session.edit(slot, part, &elements));
-        assert_eq!(session.read(slot, part, &old), elements, "read after edit: {layout:?} {part:?}");
+        session.both.region_trip(&mut g, &session.table, slot, part);
     });
     session.both.expect("regions_edit: 0; regions_place: 0; regions_read: 0");
 }
