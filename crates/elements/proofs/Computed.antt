@@ -3,11 +3,11 @@ use mathlib.Core.Path.{_≡_, refl}
 use mathlib.Core.Bool.{true, false}
 use mathlib.Core.List.{[], _∷_}
 use lib.IntN.{pos, negsuc}
-use Rattle.refusal.specs.declared.Refusal.the-variants.{Int8Range}
+use Rattle.refusal.specs.declared.Refusal.the-variants.{Precision, Int8Range}
 use Rattle.refusal.specs.declared.Answer.the-variants.{Accepted, Refused}
 use Rattle.refusal.specs.Checks.{requireAt, inOrder}
 use Rattle.elements.specs.Bytes.{elementBytes, byteOf, wordAt, signed, elementAt}
-use Rattle.elements.specs.Values.{valueValid, valueCheck, valueChecksFrom, valueChecks}
+use Rattle.elements.specs.Values.{valueValid, valueCheck, valueChecksFrom, valueChecks, precisionChecks}
 
 pub record Computed : Type 0 where
   pub low : byteOf (negsuc 1) 0 ≡ 254
@@ -27,9 +27,12 @@ pub record Computed : Type 0 where
   pub above : valueValid 0 (pos 128) ≡ false
   pub wide : inOrder (valueChecks 1 (pos 0 ∷ pos 200 ∷ [])) ≡ Accepted
   pub first : inOrder (valueChecks 0 (pos 0 ∷ pos 200 ∷ negsuc 200 ∷ [])) ≡ Refused Int8Range 1
+  -- 2 before 7: no code of a precision, and an element that int8 does not take
+  pub unknown-first : inOrder (precisionChecks 3 (pos 0 ∷ pos 200 ∷ [])) ≡ Refused Precision 0
+  pub known-next : inOrder (precisionChecks 0 (pos 0 ∷ pos 200 ∷ [])) ≡ Refused Int8Range 1
 
 pub computed : Computed
-unfolding requireAt inOrder elementBytes byteOf wordAt signed elementAt valueValid valueCheck valueChecksFrom valueChecks
+unfolding requireAt inOrder elementBytes byteOf wordAt signed elementAt valueValid valueCheck valueChecksFrom valueChecks precisionChecks
 computed =
     record {
       low = refl;
@@ -46,4 +49,6 @@ computed =
       above = refl;
       wide = refl;
       first = refl;
+      unknown-first = refl;
+      known-next = refl;
     }

@@ -4,6 +4,7 @@
 --     Valid                                    each of the first n elements is valid
 --     valueChecks-valid, valueChecks-least     what an accepted list, and a refused one, say of its elements
 --     valueChecks-all, valueChecks-first       and back
+--     precisionChecks-unknown, precisionChecks-known     an unknown code is refused first; with a known one the elements decide
 use Prim.Native.Nat.{ℕ, zero, suc, _+_, _/_, _^_, _<_, zero-le, suc-le-suc}
 use mathlib.Core.Path.{_≡_, refl, ap, _∙_, subst}
 use mathlib.Core.Logic.{_⊎_, inl, inr, ⊎-elim}
@@ -14,15 +15,15 @@ use native.Mathlib.Omega.{arith}
 use lib.IntN.{ℤ, pos, negsuc}
 use lib.ListN.{length, getD}
 use lib.Signed.{mag}
-use borrow.Author.Tests.{leb-true}
+use borrow.Author.Tests.{leb-true, lt-ltb, le-ltb}
 use Rattle.refusal.specs.declared.Refusal.{Refusal}
-use Rattle.refusal.specs.declared.Refusal.the-variants.{Int8Range}
+use Rattle.refusal.specs.declared.Refusal.the-variants.{Precision, Int8Range}
 use Rattle.refusal.specs.declared.Answer.{Answer}
 use Rattle.refusal.specs.declared.Answer.the-variants.{Accepted, Refused}
 use Rattle.refusal.specs.Checks.{inOrder}
 use Rattle.refusal.proofs.CheckLaws.{inOrder-nil, inOrder-next, inOrder-stop, inOrder-held, inOrder-rest}
 use Rattle.elements.specs.Bytes.{elementBytes}
-use Rattle.elements.specs.Values.{valueValid, valueCheck, valueChecksFrom, valueChecks}
+use Rattle.elements.specs.Values.{valueValid, valueCheck, valueChecksFrom, valueChecks, precisionChecks}
 
 pub and-true : (a b : Bool) → a && b ≡ true → (a ≡ true) × (b ≡ true)
 and-true true b e = (refl, e)
@@ -130,3 +131,11 @@ module _ (p : ℕ) (zs : List ℤ) where
 
   pub valueChecks-other : (p ≡ 0 → ⊥) → inOrder (valueChecks p zs) ≡ Accepted
   valueChecks-other f = valueChecks-all (λ i h. valueValid-other p _ f)
+
+  pub precisionChecks-unknown : 2 < p → inOrder (precisionChecks p zs) ≡ Refused Precision 0
+  unfolding precisionChecks
+  precisionChecks-unknown h = inOrder-stop 0 Precision _ (le-ltb p 3 h)
+
+  pub precisionChecks-known : p < 3 → inOrder (precisionChecks p zs) ≡ inOrder (valueChecks p zs)
+  unfolding precisionChecks
+  precisionChecks-known h = inOrder-next 0 Precision _ (lt-ltb p 3 h)

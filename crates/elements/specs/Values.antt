@@ -2,12 +2,13 @@
 use Prim.Native.Nat.{ℕ, zero, suc, _<_}
 use mathlib.Core.Bool.{Bool, true, _&&_}
 use mathlib.Core.List.{List, [], _∷_}
+use lib.Dec.{ltb}
 use lib.IntN.{ℤ, pos, negsuc}
 use lib.ListN.{getD}
 use lib.Signed.{mag, leZ}
-use Rattle.refusal.specs.declared.Refusal.the-variants.{Int8Range}
+use Rattle.refusal.specs.declared.Refusal.the-variants.{Precision, Int8Range}
 use Rattle.refusal.specs.declared.Answer.{Answer}
-use Rattle.refusal.specs.Checks.{requireAt}
+use Rattle.refusal.specs.Checks.{require, requireAt}
 
 -- an int8 element lies in -128..127 (`negsuc 127` is -128); the other precisions take every 16-bit element
 unfoldable pub valueValid : ℕ → ℤ → Bool
@@ -26,6 +27,10 @@ valueChecksFrom p i (z ∷ zs) = valueCheck p i z ∷ valueChecksFrom p (suc i) 
 -- the checks of all elements in order: the first refusal has the least index at fault
 unfoldable pub valueChecks : ℕ → List ℤ → List Answer
 valueChecks p zs = valueChecksFrom p zero zs
+
+-- 2, 7: a precision code, and elements of that precision
+unfoldable pub precisionChecks : ℕ → List ℤ → List Answer
+precisionChecks p zs = require Precision (ltb p 3) ∷ valueChecks p zs
 
 -- every element is a 16-bit number, as it is in every slice of i16
 pub record SixteenBit (zs : List ℤ) : Type 0 where

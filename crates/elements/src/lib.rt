@@ -7,7 +7,7 @@ ghost use lib.IntN.{pos, _-ℤ_};
 ghost use lib.ListN.{length};
 ghost use Rattle.refusal.specs.Checks.{inOrder};
 ghost use Rattle.elements.specs.Bytes.{elementBytes, byteOf, signed};
-ghost use Rattle.elements.specs.Values.{valueValid, valueChecks};
+ghost use Rattle.elements.specs.Values.{valueValid, valueChecks, precisionChecks};
 ghost use Rattle.elements.specs.Steps.{allValid};
 use refusal::Answer;
 use refusal::Refusal;
@@ -117,10 +117,13 @@ fn first_outside(elements: &[i16]) -> usize
     at
 }
 
-// Whether a precision takes every element; a refusal has the least index at fault.
+// Whether a precision takes every element; a refusal of one has the least index at fault. Checks 2, 7.
 pub fn check_values(precision: u32, elements: &[i16]) -> Answer
-    ensures { λ r. ⌜ r ≡ inOrder (valueChecks precision (now (elements .entry))) ⌝ }
+    ensures { λ r. ⌜ r ≡ inOrder (precisionChecks precision (now (elements .entry))) ⌝ }
 {
+    if 2 < precision {
+        return Answer::Refused(Refusal::Precision, 0);
+    }
     if precision != 0 {
         return Answer::Accepted;
     }

@@ -2,14 +2,14 @@
 --     Admitted, admitted             what checks 1, 2, 6, 5 tell
 --     pack-admitted, pack-values     what an accepted packing tells
 --     pack-refused, pack-outside, pack-valid, unpack-refused, unpack-valid     answer and contents by the checks
-use Prim.Native.Nat.{ℕ, _≤_}
+use Prim.Native.Nat.{ℕ, _≤_, _<_}
 use mathlib.Core.Path.{_≡_, sym, _∙_}
 use mathlib.Core.Bool.{Bool, true}
 use mathlib.Core.List.{List, [], _∷_}
 use lib.ListN.{length}
 use lib.Dec.{leb, ltb, eqb}
 use lib.IntN.{ℤ}
-use borrow.Author.Tests.{leb-true, eqb-true}
+use borrow.Author.Tests.{leb-true, ltb-true, eqb-true}
 use Rattle.refusal.specs.declared.Answer.{Answer}
 use Rattle.refusal.specs.declared.Answer.the-variants.{Accepted, Refused}
 use Rattle.refusal.specs.declared.Refusal.{Refusal}
@@ -27,6 +27,7 @@ use Rattle.weights.proofs.Valid.{Valid, valid}
 -- an accepted call: the sizes are valid, the elements are as many as the tensor has, the buffer holds the surface
 pub record Admitted (q : WeightLayout) (given len : ℕ) : Type 0 where
   pub sizes : sizesValid q ≡ true
+  pub precision-lt : q .precision < 3
   pub layout : Valid q
   pub count : given ≡ elementCount q
   pub room : surfaceBytes q ≤ len
@@ -47,6 +48,7 @@ admitted q given len e =
     let s = inOrder-held 0 Size sz r1 e in
     record {
       sizes = s;
+      precision-lt = ltb-true (q .precision) 3 (inOrder-held 0 Precision pr r2 e1);
       layout = valid q s;
       count = eqb-true given (elementCount q) (inOrder-held 0 ElementCount co r3 e2);
       room = leb-true (surfaceBytes q) len (inOrder-held 0 BufferLength ro [] e3);

@@ -5,7 +5,8 @@ use mathlib.Core.Path.{_≡_, sym, _∙_}
 use lib.ListN.{length}
 use Rattle.refusal.specs.declared.Answer.the-variants.{Accepted}
 use Rattle.refusal.specs.Checks.{inOrder}
-use Rattle.elements.specs.Values.{valueChecks}
+use Rattle.elements.specs.Values.{valueChecks, precisionChecks}
+use Rattle.elements.proofs.ValueLaws.{precisionChecks-known}
 use Rattle.weights.specs.Rules.{weightChecks}
 use Rattle.weights.proofs.CallLaws.{Admitted, admitted, pack-refused, pack-outside, pack-valid}
 use Rattle.weights.proofs.SurfaceLaws.{surface-ge}
@@ -24,8 +25,12 @@ passed c = sym (c .before .before .check .ensures) ∙ c .enum-told .given .1
 adm : (c : tie.After-enum-told) → Admitted (entry c .args .layout) (length (entry c .args .elements .now)) (length (entry c .args .buffer .now))
 adm c = admitted (entry c .args .layout) (length (entry c .args .elements .now)) (length (entry c .args .buffer .now)) (passed c)
 
+-- the code is known by 2: the elements decide
+known : (d : tie.After-enum-told) → (let a = entry d .args in inOrder (precisionChecks (a .layout .precision) (a .elements .now)) ≡ inOrder (valueChecks (a .layout .precision) (a .elements .now)))
+known d = let a = entry d .args in precisionChecks-known (a .layout .precision) (a .elements .now) (adm d .precision-lt)
+
 values : (c : tie.After-enum-told3) → (let a = entry (c .before .before .before) .args in inOrder (valueChecks (a .layout .precision) (a .elements .now)) ≡ Accepted)
-values c = sym (c .before .before .check-values .ensures) ∙ c .enum-told3 .given .1
+values c = sym (known (c .before .before .before)) ∙ sym (c .before .before .check-values .ensures) ∙ c .enum-told3 .given .1
 
 -- from behind the runs: the checks of the values, and those before them
 abbrev written-at : tie.After-slice-known2 → tie.After-enum-told3
@@ -66,7 +71,7 @@ returns-2 c =
     let d = v .before in
     let a = entry d .args in
     let refused = c .enum-told4 .given .1 in
-    let p = pack-outside (a .layout) (a .elements .now) (a .buffer .now) (passed d) (sym (v .check-values .ensures) ∙ refused) in
+    let p = pack-outside (a .layout) (a .elements .now) (a .buffer .now) (passed d) (sym (known d) ∙ sym (v .check-values .ensures) ∙ refused) in
     (refused ∙ p .0, p .1)
 
 runs-requires : tie.Need-runs-requires
