@@ -40,7 +40,7 @@ extern "C" {
 /* The version of the archive: OLSKETINA_VERSION of the header that it was written with. */
 OLSKETINA_NODISCARD uint32_t olsketina_version(void);
 
-/* ---- refusals */
+/* ---- refusals: docs/REFUSALS.md has for each what provokes it and how to mend it */
 
 enum olsketina_refusal {
     OLSKETINA_ACCEPTED = 0,
