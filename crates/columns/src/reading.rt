@@ -2,20 +2,8 @@
 ghost use mathlib.Core.Path.{_≡_};
 ghost use Prim.Native.Nat.{_+_, _*_, _≤_};
 ghost use lib.ListN.{length};
-ghost use Rattle.elements.specs.Bytes.{elementAt};
 ghost use Rattle.columns.specs.Columns.{bytesSet, columnElement, rowsRead};
 use crate::tiles;
-
-// The element of the e bytes at p.
-fn element(e: u32, buffer: &[u8], p: usize) -> i16
-    requires { ⌜ (1 ≤ e) × (e ≤ 2) × (p + e ≤ length (now buffer)) ⌝ }
-    ensures { λ r. ⌜ r ≡ elementAt e (now (buffer .entry)) p ⌝ }
-{
-    if e == 1 {
-        return elements::from_byte(buffer[p]);
-    }
-    elements::from_bytes(buffer[p], buffer[p + 1])
-}
 
 // One row of elements, one from each column.
 fn read_row(
@@ -33,7 +21,12 @@ fn read_row(
 {
     let mut i: usize = 0;
     while i < count {
-        let x = element(e, buffer, at + stride * i);
+        let p = at + stride * i;
+        let x = if e == 1 {
+            elements::from_byte(buffer[p])
+        } else {
+            elements::from_bytes(buffer[p], buffer[p + 1])
+        };
         elements[from + i] = x;
         i += 1;
     }

@@ -137,19 +137,12 @@ pub(crate) fn write_half(
     }
 }
 
-// Two bytes as a unit, low byte first.
-fn word(a: u8, b: u8) -> u16
-    ensures { λ r. ⌜ (r % 256 ≡ a) × (r / 256 % 256 ≡ b) ⌝ }
-{
-    a as u16 + 256 * (b as u16)
-}
-
-// The unit at p.
+// The unit at p, low byte first.
 fn unit_at(buffer: &[u8], p: usize) -> u16
     requires { ⌜ p + 2 ≤ length (now buffer) ⌝ }
     ensures { λ r. ⌜ UnitIs (now (buffer .entry)) p r ⌝ }
 {
-    word(buffer[p], buffer[p + 1])
+    buffer[p] as u16 + 256 * (buffer[p + 1] as u16)
 }
 
 // The four units of each column of eight bytes.

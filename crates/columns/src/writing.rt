@@ -125,20 +125,8 @@ fn write_rows(
     }
 }
 
-// How many columns a strip has, by the bytes of a column: a tile has room for 64 columns of a band, or 128 of half a band; fewer bytes need none.
-fn strip_of(bytes: u32) -> usize
-    ensures { λ n. ⌜ (1 ≤ n) × (4 ≤ bytes → n ≤ 128) × (8 ≤ bytes → n ≤ 64) ⌝ }
-{
-    if bytes < 4 {
-        return 4294967295;
-    }
-    if bytes < 8 {
-        return 128;
-    }
-    64
-}
-
-// Strips of columns, all rows of a strip before the next strip; elements that lie one behind another in one pass.
+// Strips of columns, all rows of a strip before the next strip; elements that lie one behind another in one pass. A strip has as many columns as
+// a tile has room for: 64 of a band, or 128 of half a band; fewer bytes need no tile.
 pub(crate) fn write_strips(
     e: u32,
     elements: &[i16],
@@ -163,7 +151,14 @@ pub(crate) fn write_strips(
         write_unit(2, elements, from, plane, count, buffer, at, 2);
         return;
     }
-    let strip = strip_of(rows * e);
+    let bytes = rows * e;
+    let strip: usize = if bytes < 4 {
+        4294967295
+    } else if bytes < 8 {
+        128
+    } else {
+        64
+    };
     let mut source = from;
     let mut done: usize = 0;
     while strip < count - done {

@@ -2,6 +2,7 @@
 use Prim.Native.Nat.{ℕ, _+_, _-_, _*_, _<_, _≤_}
 use native.Mathlib.Omega.{arith}
 use mathlib.Core.Path.{_≡_, refl, ap, _∙_}
+use mathlib.Core.Logic.{⊎-elim}
 use mathlib.Core.List.{List}
 use lib.Dec.{eqb}
 use lib.IntN.{ℤ}
@@ -17,11 +18,11 @@ use Rattle.columns.proofs.writing.write_strips.Statement.{statement}
 use Rattle.columns.proofs.writing.write_strips.Tie as tie
 
 abbrev Inv-loop : tie.InvT-loop
-Inv-loop e elements from plane rows count buffer₀ at stride strip source₀ done₀ buffer source done =
+Inv-loop e elements from plane rows count buffer₀ at stride bytes strip source₀ done₀ buffer source done =
     (done < count) × (source ≡ from + done) × (buffer ≡ rowsWritten e (listed elements) from plane rows done at stride buffer₀)
 
 abbrev μ-loop : tie.MeasureT-loop
-μ-loop e elements from plane rows count buffer₀ at stride strip source₀ done₀ buffer source done = count - done
+μ-loop e elements from plane rows count buffer₀ at stride bytes strip source₀ done₀ buffer source done = count - done
 
 -- n columns written
 abbrev written : tie.Start Inv-loop μ-loop → ℕ → List ℕ
@@ -96,18 +97,27 @@ returns-2 c = let f = c .before .before in
     ∙ written-as 2 src (a .from) (a .plane) (a .count) (a .at) 2 1 2 (a .buffer .now) refl
     ∙ written-line src (a .from) (a .plane) (a .count) (a .at) 2 (a .e) (a .rows) (a .stride) (a .buffer .now) (w .1) (w .0) (w .2)
 
-mul-strip-of : tie.Need-mul-strip-of Inv-loop μ-loop
-mul-strip-of c = let s = c .before .before .before in omega (arith, s .pre .0 .4)
-
-strip-of-requires : tie.Need-strip-of-requires Inv-loop μ-loop
-strip-of-requires c κs = search needs
+mul-bytes : tie.Need-mul-bytes Inv-loop μ-loop
+mul-bytes c = let s = c .before .before .before in omega (arith, s .pre .0 .4)
 
 long : (c : tie.At-loop Inv-loop μ-loop) → length (c .loop .buffer) ≡ length (c .before .before .before .before .before .args .buffer .now)
 long c = ap length (c .loop .inv .2) ∙ written-long (c .before .before .before .before .before) (c .loop .done)
 
 -- how many columns a strip has
 abbrev wide : tie.At-loop Inv-loop μ-loop → ℕ
-wide l = l .before .strip-of .result
+wide l = l .before .if3 .strip
+
+-- some, and no more than a tile has room for
+tiled : (l : tie.At-loop Inv-loop μ-loop) → let a = l .before .before .before .before .before .args in
+    (1 ≤ wide l) × (4 ≤ a .rows * a .e → wide l ≤ 128) × (8 ≤ a .rows * a .e → wide l ≤ 64)
+tiled l =
+    ⊎-elim
+    (λ w. (omega (arith, w .1), λ h. absurd (omega (arith, w .0 .taken)), λ h. absurd (omega (arith, w .0 .taken))))
+    (λ v. ⊎-elim
+    (λ w. (omega (arith, w .2), λ h. omega (arith, w .2), λ h. absurd (omega (arith, w .1 .taken))))
+    (λ w. (omega (arith, w .2), λ h. omega (arith, w .2), λ h. omega (arith, w .2)))
+    v)
+    (l .before .if3 .came)
 
 -- a whole strip is left, and more
 strip : (c : tie.In-loop Inv-loop μ-loop) → c .before .loop .done + wide (c .before) < c .before .before .before .before .before .before .args .count
@@ -119,7 +129,7 @@ strip-in : (c : tie.In-loop Inv-loop μ-loop) → let a = c .before .before .bef
     × (a .from + done + a .rows * a .plane + wide (c .before) ≤ length (a .elements .now) + a .plane) × (a .from + done ≤ length (a .elements .now))
 strip-in c =
     let l = c .before in
-    room (l .before .before .before .before .before) (l .loop .done) (wide l) (l .before .strip-of .ensures .0) (omega (arith, strip c))
+    room (l .before .before .before .before .before) (l .loop .done) (wide l) (tiled l .0) (omega (arith, strip c))
 
 rest-in : (c : tie.After-loop Inv-loop μ-loop) → let a = c .before .before .before .before .before .before .args in
     let done = c .before .loop .done in
@@ -147,21 +157,21 @@ write-rows-requires : tie.Need-write-rows-requires Inv-loop μ-loop
 write-rows-requires c κs = let i = c .before in
     let l = i .before in
     let s = l .before .before .before .before .before in
-    ((s .pre .0 .0, s .pre .0 .1, l .before .strip-of .ensures .0, l .before .strip-of .ensures .1, l .before .strip-of .ensures .2, s .pre .0 .4), (omega (arith, strip-in i, l .loop .inv .1), (s .pre .1 .1 .0, s .pre .1 .1 .1, omega (arith, strip-in i, long l))))
+    ((s .pre .0 .0, s .pre .0 .1, tiled l .0, tiled l .1, tiled l .2, s .pre .0 .4), (omega (arith, strip-in i, l .loop .inv .1), (s .pre .1 .1 .0, s .pre .1 .1 .1, omega (arith, strip-in i, long l))))
 
 add-source : tie.Need-add-source Inv-loop μ-loop
-add-source c = let i = c .before .before .before .before in
+add-source c = let i = c .before .before .before .before .before in
     let s = i .before .before .before .before .before .before in
     omega (arith, strip-in i, i .before .loop .inv .1, s .good, stride-le (s .args .plane) (s .args .rows) (s .pre .0 .2))
 
 add-done : tie.Need-add-done Inv-loop μ-loop
-add-done c = let i = c .before .before .before .before in omega (arith, strip i)
+add-done c = let i = c .before .before .before .before .before in omega (arith, strip i)
 
 loop-less : tie.Need-loop-less Inv-loop μ-loop
-loop-less c = let i = c .before .before .before .before in omega (arith, strip i, i .before .before .strip-of .ensures .0)
+loop-less c = let i = c .before .before .before .before .before in omega (arith, strip i, tiled (i .before) .0)
 
 loop-again : tie.Need-loop-again Inv-loop μ-loop
-loop-again c = let f = c .before .before in
+loop-again c = let f = c .before .before .before in
     let i = f .before .before in
     let l = i .before in
     let s = l .before .before .before .before .before in
@@ -184,7 +194,7 @@ write-rows-requires-2 : tie.Need-write-rows-requires-2 Inv-loop μ-loop
 write-rows-requires-2 c κs = let i = c .before in
     let l = i .before in
     let s = l .before .before .before .before .before in
-    ((s .pre .0 .0, s .pre .0 .1, omega (arith, l .loop .inv .0), λ h. omega (arith, i .loop-test .left, l .before .strip-of .ensures .1 h), λ h. omega (arith, i .loop-test .left, l .before .strip-of .ensures .2 h), s .pre .0 .4), (omega (arith, rest-in i, l .loop .inv .1), (s .pre .1 .1 .0, s .pre .1 .1 .1, omega (arith, rest-in i, long l))))
+    ((s .pre .0 .0, s .pre .0 .1, omega (arith, l .loop .inv .0), λ h. omega (arith, i .loop-test .left, tiled l .1 h), λ h. omega (arith, i .loop-test .left, tiled l .2 h), s .pre .0 .4), (omega (arith, rest-in i, l .loop .inv .1), (s .pre .1 .1 .0, s .pre .1 .1 .1, omega (arith, rest-in i, long l))))
 
 -- all columns are written
 whole : (c : tie.After-slice-known5 Inv-loop μ-loop) → let s = c .before .before .before .before .before .before .before .before .before .before in
@@ -215,8 +225,7 @@ write-strips-spec =
     write-unit-requires
     same-length-2
     returns-2
-    mul-strip-of
-    strip-of-requires
+    mul-bytes
     loop-holds
     sub-loop
     mul-write-rows
