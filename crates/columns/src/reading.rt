@@ -54,7 +54,11 @@ fn read_some(
 {
     if 4 * (3 - e) <= rows {
         tiles::read_tile(buffer, at, stride, count, tile);
-        tiles::split(e, tile, count, elements, from, plane);
+        let step = if e == 1 { 2 * plane } else { plane };
+        tiles::split_unit(e, tile, 0, count, elements, from, plane);
+        tiles::split_unit(e, tile, 1, count, elements, from + step, plane);
+        tiles::split_unit(e, tile, 2, count, elements, from + 2 * step, plane);
+        tiles::split_unit(e, tile, 3, count, elements, from + 3 * step, plane);
         return 4 * (3 - e);
     }
     read_row(e, buffer, at, stride, count, elements, from);

@@ -3,7 +3,7 @@
 ghost use mathlib.Core.Path.{_≡_};
 ghost use Prim.Native.Nat.{ℕ, _+_, _-_, _*_, _/_, _%_, _≤_, _<_};
 ghost use lib.ListN.{length, getD};
-ghost use Rattle.columns.specs.Columns.{columns, columnUnit, tileByte, listed, twoSet, tileSet, UnitIs, unitElement, unitRow, tileElement};
+ghost use Rattle.columns.specs.Columns.{columns, columnUnit, tileByte, listed, twoSet, tileSet, UnitIs, unitElement, unitRow};
 
 // Two bytes of a column: those of one two-byte element, or of two one-byte elements.
 pub(crate) fn unit(e: u32, elements: &[i16], at: usize, plane: usize) -> u16
@@ -185,8 +185,8 @@ fn split_one(e: u32, u: u16, elements: &mut [i16], at: usize, plane: usize)
     elements[at] = x;
 }
 
-// Unit j of each column of a tile.
-fn split_unit(
+// The rows of unit j of each column of a tile.
+pub(crate) fn split_unit(
     e: u32,
     tile: &[u16; 256],
     j: usize,
@@ -205,24 +205,4 @@ fn split_unit(
         split_one(e, u, elements, from + i, plane);
         i += 1;
     }
-}
-
-// The elements of a tile, row by row.
-pub(crate) fn split(
-    e: u32,
-    tile: &[u16; 256],
-    count: usize,
-    elements: &mut [i16],
-    from: usize,
-    plane: usize,
-)
-    requires { ⌜ (1 ≤ e) × (e ≤ 2) × (count ≤ 64) × (count ≤ plane) ⌝ }
-    requires { ⌜ from + 4 * ((3 - e) * plane) + count ≤ length (now elements) + plane ⌝ }
-    ensures { λ _. ⌜ now (elements .exit) ≡ columns (tileElement e (now (tile .entry))) count (4 * (3 - e)) from plane (now (elements .entry)) ⌝ }
-{
-    let step = if e == 1 { 2 * plane } else { plane };
-    split_unit(e, tile, 0, count, elements, from, plane);
-    split_unit(e, tile, 1, count, elements, from + step, plane);
-    split_unit(e, tile, 2, count, elements, from + 2 * step, plane);
-    split_unit(e, tile, 3, count, elements, from + 3 * step, plane);
 }
