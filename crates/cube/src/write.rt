@@ -6,21 +6,10 @@ ghost use Rattle.refusal.specs.declared.Answer.the-variants.{Accepted};
 ghost use Rattle.refusal.specs.Checks.{inOrder};
 ghost use Rattle.layout.specs.Boxes.{wholeBox};
 ghost use Rattle.layout.specs.Rules.{admitChecks};
-ghost use Rattle.cube.specs.Steps.{rowWritten, boxWritten};
+ghost use Rattle.cube.specs.Steps.{boxWritten};
 use crate::runs;
-use columns::ColumnBlock;
 use layout::CubeLayout;
 use layout::ElementBox;
-
-// A block of one row; its atoms are cleared before, where `clear` says so.
-fn row(block: ColumnBlock, clear: bool, elements: &[i16], buffer: &mut [u8])
-    ensures { λ _. ⌜ now (buffer .exit) ≡ rowWritten block clear (now (elements .entry)) (now (buffer .entry)) ⌝ }
-{
-    if clear {
-        columns::clear(block.at, 32 * block.count as usize, buffer);
-    }
-    columns::write(block, elements, buffer);
-}
 
 // All channels of the box, those of one atom after another, all rows of these before the next. With `pad` the box is the whole cube, and a row's
 // atoms of the last surface, which alone has padding, are cleared just before they are written.
@@ -39,7 +28,10 @@ pub(crate) fn all(layout: CubeLayout, b: ElementBox, pad: bool, elements: &[i16]
         let mut r: u32 = 0;
         while r < rows {
             let block = runs::row(layout, b, n, m, r);
-            row(block, pad & (m == channels), elements, buffer);
+            if pad & (m == channels) {
+                columns::clear(block.at, 32 * block.count as usize, buffer);
+            }
+            columns::write(block, elements, buffer);
             r += 1;
         }
         n = m;

@@ -3,11 +3,13 @@
 use Prim.Native.Nat.{ℕ, _+_, _-_, _*_, _%_, _<_, _≤_}
 use native.Mathlib.Omega.{arith}
 use mathlib.Core.Path.{_≡_, refl, sym, ap, subst, subst⁻¹, _∙_}
-use mathlib.Core.Bool.{true, _&&_}
+use mathlib.Core.Bool.{Bool, true, cond, _&&_}
+use mathlib.Core.Logic.{⊎-elim}
 use mathlib.Core.List.{List}
 use lib.Dec.{eqb}
 use lib.ListN.{length}
 use Rattle.columns.specs.declared.ColumnBlock.{ColumnBlock}
+use Rattle.columns.specs.Blocks.{blockWritten, cleared}
 use Rattle.elements.proofs.ByteLaws.{elementBytes-pos, elementBytes-le}
 use Rattle.elements.proofs.Toward.{Toward, toward-refl, toward-trans}
 use Rattle.layout.specs.declared.ElementBox.{ElementBox}
@@ -65,16 +67,29 @@ begins s t m e = let a = s .args in
     let zero : a .b .channel + m ≡ m = omega (arith, ap (λ (b : ElementBox). b .channel) (s .pre .1 t)) in
     ap (λ (x : ℕ). x * sizeOf (a .layout) % 32) (sym zero) ∙ e
 
+-- a row's atoms cleared, or not
+came : (c : tie.Joined1 Inv-loop2 μ-loop2 Inv-loop μ-loop) → let l2 = c .before .before .before in
+    let t = l2 .before in
+    let a = t .before .before .before .before .before .args in
+    let b = c .before .row .result in
+    c .if1 .buffer ≡ cond (a .pad && eqb (t .atom-end .result) (a .b .channels)) (cleared (b .at) (32 * b .count) (l2 .loop2 .buffer)) (l2 .loop2 .buffer)
+came c = let l2 = c .before .before .before in
+    let b = c .before .row .result in
+    let made : Bool → List ℕ = λ x. cond x (cleared (b .at) (32 * b .count) (l2 .loop2 .buffer)) (l2 .loop2 .buffer) in
+    ⊎-elim (λ w. w .6 ∙ w .3 .ensures ∙ ap made (sym (w .0 .taken))) (λ w. w .1 ∙ ap made (sym (w .0 .left))) (c .if1 .came)
+
 -- one turn of the rows' loop
-turn : (c : tie.After-slice-known2 Inv-loop2 μ-loop2 Inv-loop μ-loop) → let i = c .before .before .before .before .before in
+turn : (c : tie.After-slice-known3 Inv-loop2 μ-loop2 Inv-loop μ-loop) → let i = c .before .before .before .before .before .before in
     let l2 = i .before in
     let t = l2 .before in
     let a = t .before .before .before .before .before .args in
     (before g : List ℕ) → length (t .before .before .loop .buffer) ≡ length before → Goal (a .layout) (a .b) (a .pad) (a .elements .now) before g
-    → Toward 0 g (t .before .before .loop .buffer) (c .before .before .row2 .last .1 .1 .1 .0) × Rows (Reached (a .layout) (a .b) (a .pad) g (c .before .before .row2 .last .1 .1 .1 .0)) (t .before .before .loop .n) (t .atom-end .result) (l2 .loop2 .r + 1)
+    → Toward 0 g (t .before .before .loop .buffer) (c .before .before .write .last .1 .1 .0) × Rows (Reached (a .layout) (a .b) (a .pad) g (c .before .before .write .last .1 .1 .0)) (t .before .before .loop .n) (t .atom-end .result) (l2 .loop2 .r + 1)
+unfolding rowWritten
 turn c before g h w =
     let f = c .before .before in
-    let i = f .before .before .before in
+    let k = f .before .before in
+    let i = k .before .before in
     let l2 = i .before in
     let t = l2 .before in
     let l = t .before .before in
@@ -84,13 +99,13 @@ turn c before g h w =
     let m = t .atom-end .result in
     let so = l2 .loop2 .inv .1 before g h w in
     let room = subst (λ (x : ℕ). a .layout .start + cubeExtent (a .layout) ≤ x) (sym (l .loop .inv .2 .long) ∙ h) (d .room) in
-    let is : _≡_ {A = List ℕ} (f .row2 .last .1 .1 .1 .0) (rowWritten (rowBlock (a .layout) (a .b) (l .loop .n) m (l2 .loop2 .r)) (a .pad && eqb m (a .b .channels)) (a .elements .now) (l2 .loop2 .buffer)) =
-    f .row2 .ensures ∙ ap (λ (b : ColumnBlock). rowWritten b (a .pad && eqb m (a .b .channels)) (a .elements .now) (l2 .loop2 .buffer)) (f .before .before .row .ensures) in
+    let is : _≡_ {A = List ℕ} (f .write .last .1 .1 .0) (rowWritten (rowBlock (a .layout) (a .b) (l .loop .n) m (l2 .loop2 .r)) (a .pad && eqb m (a .b .channels)) (a .elements .now) (l2 .loop2 .buffer)) =
+    f .write .ensures ∙ ap (blockWritten (k .before .row .result) (a .elements .now)) (came k) ∙ ap (λ (b : ColumnBlock). rowWritten b (a .pad && eqb m (a .b .channels)) (a .elements .now) (l2 .loop2 .buffer)) (k .before .row .ensures) in
     let one = row-done (a .layout) (d .layout) (a .b) (d .inside) (a .pad) (a .elements .now) (d .count) before g room w (l .loop .n) m (l2 .loop2 .r) (end-is t) (i .loop2-test .taken)
     (λ pt. l .loop .inv .1 pt (t .before .loop-test .taken)) (l2 .loop2 .buffer) (so .0 .long ∙ h) (a .pad && eqb m (a .b .channels)) refl in
     let two = subst⁻¹ (λ (x : List ℕ). RowDone (a .layout) (d .layout) (a .b) (d .inside) (a .pad) (a .elements .now) (d .count) before g room w (l .loop .n) m (l2 .loop2 .r) (end-is t) (i .loop2-test .taken) (l2 .loop2 .buffer) x) is one in (
       toward-trans 0 g (so .0) (two .near),
-      rows-more (Reached (a .layout) (a .b) (a .pad) g (l2 .loop2 .buffer)) (Reached (a .layout) (a .b) (a .pad) g (f .row2 .last .1 .1 .1 .0))
+      rows-more (Reached (a .layout) (a .b) (a .pad) g (l2 .loop2 .buffer)) (Reached (a .layout) (a .b) (a .pad) g (f .write .last .1 .1 .0))
           (λ x k r. reached-keep (a .layout) (a .b) (a .pad) g (two .near) x k r) (l .loop .n) m (l2 .loop2 .r) (so .1) (two .reached),
     )
 
@@ -123,17 +138,26 @@ row-requires c κs = let t = c .before .before in
     let e = end-is t in
     (admit-front (s .args .layout) (s .args .b) (length (s .args .elements .now)) (length (s .args .buffer .now)) (s .pre .0), (e .some, e .le, c .loop2-test .taken))
 
-row-requires-2 : tie.Need-row-requires-2 Inv-loop2 μ-loop2 Inv-loop μ-loop
-row-requires-2 c κs = search needs
+cast-clear : tie.Need-cast-clear Inv-loop2 μ-loop2 Inv-loop μ-loop
+cast-clear c = search needs
+
+mul-clear : tie.Need-mul-clear Inv-loop2 μ-loop2 Inv-loop μ-loop
+mul-clear c = search needs
+
+clear-requires : tie.Need-clear-requires Inv-loop2 μ-loop2 Inv-loop μ-loop
+clear-requires c κs = search needs
+
+write-requires : tie.Need-write-requires Inv-loop2 μ-loop2 Inv-loop μ-loop
+write-requires c κs = search needs
 
 add-r : tie.Need-add-r Inv-loop2 μ-loop2 Inv-loop μ-loop
-add-r c = let i = c .before .before .before .before .before in omega (arith, i .loop2-test .taken, rows-small (i .before .before .before .before .before .before .before))
+add-r c = let i = c .before .before .before .before .before .before in omega (arith, i .loop2-test .taken, rows-small (i .before .before .before .before .before .before .before))
 
 loop2-less : tie.Need-loop2-less Inv-loop2 μ-loop2 Inv-loop μ-loop
 loop2-less c = omega arith
 
 loop2-again : tie.Need-loop2-again Inv-loop2 μ-loop2 Inv-loop μ-loop
-loop2-again c = let i = c .before .before .before .before .before in
+loop2-again c = let i = c .before .before .before .before .before .before in
     (omega (arith, i .loop2-test .taken), λ before g h w. turn c before g h w)
 
 loop-less : tie.Need-loop-less Inv-loop2 μ-loop2 Inv-loop μ-loop
@@ -177,7 +201,10 @@ all-spec =
     atom-end-requires
     loop2-holds
     row-requires
-    row-requires-2
+    cast-clear
+    mul-clear
+    clear-requires
+    write-requires
     add-r
     loop2-less
     loop2-again
