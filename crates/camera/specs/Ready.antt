@@ -3,6 +3,7 @@ use mathlib.Core.List.{List, [], _∷_}
 use lib.IntN.{ℤ, pos, _-ℤ_}
 use Rattle.refusal.specs.declared.Refusal.the-variants.{YSelect}
 use Rattle.refusal.specs.declared.Answer.{Answer}
+use Rattle.refusal.specs.declared.Answer.the-variants.{Accepted, Refused}
 use Rattle.refusal.specs.Checks.{require, inOrder, result}
 use Rattle.lut.specs.declared.XMode.the-variants.{Linear}
 use Rattle.lut.specs.declared.Slope.{Slope}
@@ -42,3 +43,8 @@ readyChecks s = require YSelect (between (pos 2) (pos 22) s) ∷ []
 -- the settings where the call is accepted, else its refusal
 unfoldable pub readyAnswer : ℤ → Choice → Choice → Choice → Ready
 readyAnswer s priority overflow underflow = result Setting NotGiven (inOrder (readyChecks s)) (readySettings s priority overflow underflow)
+
+-- its answer: accepted where there are settings
+abbrev pub readyGiven : Ready → Answer
+readyGiven (Setting s) = Accepted
+readyGiven (NotGiven r at) = Refused r at

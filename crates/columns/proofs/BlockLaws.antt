@@ -15,7 +15,7 @@ use lib.Dec.{leb}
 use lib.IntN.{ℤ}
 use lib.ListN.{length}
 use borrow.Author.Tests.{leb-true, le-leb}
-use Rattle.elements.proofs.ValueLaws.{and-true}
+use Rattle.refusal.proofs.TestLaws.{and-true}
 use Rattle.columns.specs.declared.ColumnBlock.{ColumnBlock}
 use Rattle.columns.specs.Columns.{listed, rowsWritten, rowsRead}
 use Rattle.columns.proofs.StripLaws.{written-length}

@@ -16,7 +16,7 @@ use borrow.Author.Tests.{eqb-true, eq-eqb}
 use Rattle.elements.specs.Bytes.{byteOf}
 use Rattle.elements.proofs.ByteLaws.{elementBytes-pos}
 use Rattle.elements.proofs.Toward.{Toward}
-use Rattle.elements.proofs.ValueLaws.{and-true}
+use Rattle.refusal.proofs.TestLaws.{and-true}
 use Rattle.columns.specs.Blocks.{blockWritten, cleared}
 use Rattle.columns.proofs.BlockLaws.{BlockFits}
 use Rattle.columns.proofs.TowardLaws.{block-written-toward, block-written-reached}

@@ -21,20 +21,17 @@ use Rattle.refusal.specs.declared.Refusal.the-variants.{Precision, Int8Range}
 use Rattle.refusal.specs.declared.Answer.{Answer}
 use Rattle.refusal.specs.declared.Answer.the-variants.{Accepted, Refused}
 use Rattle.refusal.specs.Checks.{inOrder}
+use Rattle.refusal.proofs.TestLaws.{and-left}
 use Rattle.refusal.proofs.CheckLaws.{inOrder-nil, inOrder-next, inOrder-stop, inOrder-held, inOrder-rest}
 use Rattle.elements.specs.Bytes.{elementBytes}
 use Rattle.elements.specs.Values.{valueValid, valueCheck, valueChecksFrom, valueChecks, precisionChecks}
-
-pub and-true : (a b : Bool) → a && b ≡ true → (a ≡ true) × (b ≡ true)
-and-true true b e = (refl, e)
-and-true false b e = (e, cc)
 
 -- ---- one element
 
 valid-mag : (z : ℤ) → valueValid 0 z ≡ true → mag z < 128
 unfolding valueValid
 valid-mag (pos n) e = omega (arith, leb-true n 127 e)
-valid-mag (negsuc n) e = omega (arith, leb-true n 127 (and-true _ _ e .0))
+valid-mag (negsuc n) e = omega (arith, leb-true n 127 (and-left _ _ e))
 
 pub valueValid-fits : (p : ℕ) (z : ℤ) → valueValid p z ≡ true → mag z < 32768 → mag z < 256 ^ elementBytes p / 2
 unfolding elementBytes

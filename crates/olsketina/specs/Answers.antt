@@ -3,22 +3,17 @@ use Prim.Native.Nat.{ℕ}
 use mathlib.Core.Path.{_≡_}
 use lib.IntN.{ℤ}
 use Rattle.refusal.specs.declared.Answer.{Answer}
-use Rattle.refusal.specs.declared.Answer.the-variants.{Accepted, Refused}
 use Rattle.refusal.specs.declared.Quantity.{Quantity}
 use Rattle.refusal.specs.declared.Quantity.the-variants.{Is, Refused as NotGiven}
-use Rattle.refusal.specs.Codes.{answerCode, faultIndex}
+use Rattle.refusal.specs.Codes.{answerCode, faultIndex, quantityAnswer}
 use Rattle.quantize.specs.declared.Quantized.{Quantized}
 use Rattle.quantize.specs.declared.Quantized.the-variants.{Value, Refused as NotConverted}
+use Rattle.quantize.specs.Quantize.{quantizedAnswer}
 
 -- the number returned and the index at fault stored are an answer's
 pub record Answered (answer : Answer) (code fault : ℕ) : Type 0 where
   pub coded : code ≡ answerCode answer
   pub indexed : fault ≡ faultIndex answer
-
--- a quantity's answer: accepted where there is one
-abbrev pub quantityAnswer : Quantity → Answer
-quantityAnswer (Is n) = Accepted
-quantityAnswer (NotGiven r at) = Refused r at
 
 -- the value stored: the quantity, or as it was where there is none
 abbrev pub quantityOver : Quantity → ℕ → ℕ
@@ -30,11 +25,6 @@ pub record Valued (quantity : Quantity) (before code value fault : ℕ) : Type 0
   pub answered : Answered (quantityAnswer quantity) code fault
   pub valued : value ≡ quantityOver quantity before
 
--- a conversion's answer: accepted where there is a value
-abbrev pub convertedAnswer : Quantized → Answer
-convertedAnswer (Value z) = Accepted
-convertedAnswer (NotConverted r at) = Refused r at
-
 -- the value stored: the converted one, or as it was where there is none
 abbrev pub convertedOver : Quantized → ℤ → ℤ
 convertedOver (Value z) before = z
@@ -42,5 +32,5 @@ convertedOver (NotConverted r at) before = before
 
 -- the number returned, the value stored and the index at fault stored are a conversion's
 pub record Converted (converted : Quantized) (before : ℤ) (code : ℕ) (value : ℤ) (fault : ℕ) : Type 0 where
-  pub answered : Answered (convertedAnswer converted) code fault
+  pub answered : Answered (quantizedAnswer converted) code fault
   pub valued : value ≡ convertedOver converted before

@@ -3,8 +3,6 @@ use Prim.Native.Nat.{ℕ, zero, suc}
 use mathlib.Core.Path.{_≡_}
 use mathlib.Core.List.{List, [], _∷_}
 use lib.IntN.{ℤ}
-use Rattle.refusal.specs.declared.Answer.{Answer}
-use Rattle.refusal.specs.declared.Answer.the-variants.{Accepted, Refused}
 use Rattle.lut.specs.declared.XMode.{XMode}
 use Rattle.lut.specs.declared.XMode.the-variants.{Linear, Exponential}
 use Rattle.lut.specs.declared.Table.{Table}
@@ -51,11 +49,6 @@ abbrev pub priorityWords : LutSettings → List ℕ
 priorityWords s = tableWord (s .priority) ∷ tableWord (s .overflow) ∷ tableWord (s .underflow) ∷ []
 
 -- ---- what the call gives
-
--- its answer
-abbrev pub readyGiven : Ready → Answer
-readyGiven (Setting s) = Accepted
-readyGiven (NotGiven r at) = Refused r at
 
 -- words made of the settings, or as they were where there are none
 abbrev pub readyOver : {A : Type 0} → (LutSettings → A) → Ready → A → A

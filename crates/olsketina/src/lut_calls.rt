@@ -29,7 +29,7 @@ fn run(
     let before = lut_words::counters_of(counters);
     let o = lut::run(s, x_entries, y_entries, samples, outputs, before);
     let answer = o.answer;
-    lut_words::keep_counters(counters, answer, o.counters);
+    lut_words::leave_counters(counters, answer, o.counters);
     answers::give(answer, fault)
 }
 

@@ -85,7 +85,7 @@ pub(crate) fn counters_of(words: &[u32; COUNTERS]) -> Counters
 }
 
 // Writes the counters where a run was accepted.
-pub(crate) fn keep_counters(words: &mut [u32; COUNTERS], answer: Answer, counters: Counters)
+pub(crate) fn leave_counters(words: &mut [u32; COUNTERS], answer: Answer, counters: Counters)
     ensures { λ _. ⌜ now (words .exit) ≡ leaves answer (counterWords counters) (now (words .entry)) ⌝ }
 {
     if let Answer::Accepted = answer {

@@ -1,8 +1,8 @@
 // The ready-made lookup settings of the camera curve.
 ghost use mathlib.Core.Path.{_≡_};
-ghost use Rattle.camera.specs.Ready.{readyAnswer};
+ghost use Rattle.camera.specs.Ready.{readyAnswer, readyGiven};
 ghost use Rattle.olsketina.specs.Answers.{Answered};
-ghost use Rattle.olsketina.specs.Ready.{choiceNamed, readyGiven, ReadyStored};
+ghost use Rattle.olsketina.specs.Ready.{choiceNamed, ReadyStored};
 use crate::answers;
 use crate::lut_words;
 use crate::words::PRIORITIES;
@@ -27,7 +27,7 @@ fn choice_named(word: u32) -> Choice
 }
 
 // Writes the settings where there are any; gives the number of the answer, and writes its index at fault.
-fn put_ready(
+fn write_ready(
     ready: Ready,
     x_settings: &mut [i32; SETTINGS_WORDS],
     y_settings: &mut [i32; SETTINGS_WORDS],
@@ -75,7 +75,7 @@ pub extern "C" fn olsketina_camera_ready_made(
         choice_named(overflow),
         choice_named(underflow),
     );
-    put_ready(
+    write_ready(
         ready,
         x_settings,
         y_settings,

@@ -24,7 +24,7 @@ pub extern "C" fn olsketina_regions_empty(
     ensures { λ _. ⌜ now (table .exit) ≡ withTable (emptyTable (layoutFrom (now (layout .entry)))) 0 (now (table .entry)) ⌝ }
 {
     let t = regions::empty(words::layout_at(layout, 0));
-    tables::put_table(table, 0, t);
+    tables::write_table(table, 0, t);
 }
 
 // regions::place
@@ -51,7 +51,7 @@ pub extern "C" fn olsketina_regions_place(
     let o = regions::place(before, slot, rectangle);
     let answer = o.answer;
     let after = o.table;
-    tables::keep_table(table, answer, after);
+    tables::leave_table(table, answer, after);
     answers::give(answer, fault)
 }
 

@@ -26,11 +26,11 @@ pub extern "C" fn olsketina_script_begin(
     let line = lines.line;
     let empty = line.bytes;
     *text = empty;
-    sheet_words::put_sheet(state, sheet);
+    sheet_words::write_sheet(state, sheet);
 }
 
 // Writes what a call gave: the state, its text and the row.
-fn put_fed(
+fn write_fed(
     given: Fed,
     state: &mut [u32; STATE_WORDS],
     text: &mut [u8; TEXT_BYTES],
@@ -47,7 +47,7 @@ fn put_fed(
     let ended = given.given;
     *text = bytes;
     *row = sheet_words::row_words(ended);
-    sheet_words::put_sheet(state, sheet);
+    sheet_words::write_sheet(state, sheet);
 }
 
 // script::feed
@@ -65,7 +65,7 @@ pub extern "C" fn olsketina_script_feed(
 {
     let before = sheet_words::sheet_of(state, text);
     let f = script::feed(before, part);
-    put_fed(f, state, text, row);
+    write_fed(f, state, text, row);
     f.read
 }
 
@@ -82,11 +82,11 @@ pub extern "C" fn olsketina_script_finish(
 {
     let before = sheet_words::sheet_of(state, text);
     let f = script::finish(before);
-    put_fed(f, state, text, row);
+    write_fed(f, state, text, row);
 }
 
 // Writes a text; gives its length.
-fn put_text(line: Line, text: &mut [u8; TEXT_BYTES]) -> u32
+fn write_text(line: Line, text: &mut [u8; TEXT_BYTES]) -> u32
     ensures length { λ r. ⌜ r ≡ line .length ⌝ }
     ensures bytes { λ r. ⌜ now (text .exit) ≡ line .bytes ⌝ }
 {
@@ -102,7 +102,7 @@ pub extern "C" fn olsketina_script_header_text(text: &mut [u8; TEXT_BYTES]) -> u
     ensures bytes { λ r. ⌜ now (text .exit) ≡ written header .bytes ⌝ }
 {
     let line = script::header_text();
-    put_text(line, text)
+    write_text(line, text)
 }
 
 // script::fields_text, of a value that is not negative
@@ -117,5 +117,5 @@ pub extern "C" fn olsketina_script_row_text(
     ensures bytes { λ r. ⌜ now (text .exit) ≡ written (fieldsText line answer (pos value)) .bytes ⌝ }
 {
     let fields = script::fields_text(line, answer, false, value);
-    put_text(fields, text)
+    write_text(fields, text)
 }

@@ -42,7 +42,7 @@ pub(crate) fn sheet_of(words: &[u32; STATE_WORDS], text: &[u8; TEXT_BYTES]) -> S
 }
 
 // Writes a state's words, without its text.
-pub(crate) fn put_sheet(words: &mut [u32; STATE_WORDS], sheet: Sheet)
+pub(crate) fn write_sheet(words: &mut [u32; STATE_WORDS], sheet: Sheet)
     ensures { λ _. ⌜ now (words .exit) ≡ withSheet sheet (now (words .entry)) ⌝ }
 {
     let lines = sheet.lines;
@@ -53,7 +53,7 @@ pub(crate) fn put_sheet(words: &mut [u32; STATE_WORDS], sheet: Sheet)
     words[1] = (lines.count / 4294967296) as u32;
     words[2] = line.length;
     words[3] = tables::flag_word(sheet.framed, old);
-    tables::put_table(words, STATE_TABLE, table);
+    tables::write_table(words, STATE_TABLE, table);
 }
 
 // The row of a line that ended: 1, its number, answer, index at fault and value; all 0 where none ended.

@@ -126,7 +126,7 @@ fn table_word(table: RegionTable, i: usize, old: u32) -> u32
 }
 
 // Writes a table's words from `at` on.
-pub(crate) fn put_table(words: &mut [u32], at: usize, table: RegionTable)
+pub(crate) fn write_table(words: &mut [u32], at: usize, table: RegionTable)
     requires { ⌜ at + tableSize ≤ length (now words) ⌝ }
     ensures { λ _. ⌜ now (words .exit) ≡ withTable table at (now (words .entry)) ⌝ }
 {
@@ -139,10 +139,10 @@ pub(crate) fn put_table(words: &mut [u32], at: usize, table: RegionTable)
 }
 
 // Writes a table's words where a call was accepted.
-pub(crate) fn keep_table(words: &mut [u32; TABLE_WORDS], answer: Answer, table: RegionTable)
+pub(crate) fn leave_table(words: &mut [u32; TABLE_WORDS], answer: Answer, table: RegionTable)
     ensures { λ _. ⌜ now (words .exit) ≡ leaves answer (withTable table 0 (now (words .entry))) (now (words .entry)) ⌝ }
 {
     if let Answer::Accepted = answer {
-        put_table(words, 0, table);
+        write_table(words, 0, table);
     }
 }

@@ -1,5 +1,6 @@
 -- The parts of a test that holds. Assumes nothing.
 --     and-left, and-right     one half
+--     and-true                both halves
 --     and-both                the whole from its halves
 --     and-all                 every part of a row of tests
 use mathlib.Core.Path.{_≡_, refl}
@@ -13,6 +14,9 @@ and-left false b e = e
 pub and-right : (a b : Bool) → (a && b) ≡ true → b ≡ true
 and-right true b e = e
 and-right false b e = cc
+
+pub and-true : (a b : Bool) → (a && b) ≡ true → (a ≡ true) × (b ≡ true)
+and-true a b e = (and-left a b e, and-right a b e)
 
 pub and-both : {a b : Bool} → a ≡ true → b ≡ true → (a && b) ≡ true
 and-both p q = rw (p, q)

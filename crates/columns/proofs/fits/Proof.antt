@@ -7,7 +7,7 @@ use mathlib.Core.Bool.{true, _&&_}
 use lib.Dec.{leb}
 use borrow.Author.Tests.{leb-true, le-leb}
 use Rattle.refusal.proofs.TestLaws.{and-both}
-use Rattle.elements.proofs.ValueLaws.{and-true}
+use Rattle.refusal.proofs.TestLaws.{and-true}
 use Rattle.columns.proofs.BlockLaws.{fitting-same, fitting-false}
 use borrow.Author.Needs.{needs}
 use Rattle.columns.proofs.fits.Statement.{statement}

@@ -6,7 +6,7 @@ use mathlib.Core.Bool.{Bool, _&&_}
 use lib.Dec.{leb}
 use lib.ListN.{length}
 use borrow.Author.Tests.{leb-true}
-use Rattle.elements.proofs.ValueLaws.{and-true}
+use Rattle.refusal.proofs.TestLaws.{and-true}
 use Rattle.columns.specs.Blocks.{blockFits}
 use Rattle.columns.proofs.BlockLaws.{BlockFits, fitting-of, rows-end, columns-end, block-read, block-unread}
 use borrow.Author.Needs.{needs}

@@ -7,7 +7,7 @@ use lib.Dec.{eqb}
 use lib.ListN.{length}
 use borrow.Author.Needs.{needs}
 use borrow.Author.Tests.{eqb-true}
-use Rattle.elements.proofs.ValueLaws.{and-true}
+use Rattle.refusal.proofs.TestLaws.{and-true}
 use lib.IntN.{ℤ}
 use Rattle.columns.specs.Columns.{rowsRead}
 use Rattle.columns.proofs.UnitLaws.{stride-le}

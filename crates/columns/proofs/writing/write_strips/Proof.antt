@@ -9,7 +9,7 @@ use lib.IntN.{ℤ}
 use lib.ListN.{length}
 use borrow.Author.Needs.{needs}
 use borrow.Author.Tests.{eqb-true}
-use Rattle.elements.proofs.ValueLaws.{and-true}
+use Rattle.refusal.proofs.TestLaws.{and-true}
 use Rattle.columns.specs.Columns.{rowsWritten, listed}
 use Rattle.columns.proofs.UnitLaws.{stride-le}
 use Rattle.columns.proofs.RowLaws.{one-row, written-as, written-byte, written-line}

@@ -12,8 +12,8 @@ counters-of-requires c κs = search needs
 run-requires : tie.Need-run-requires
 run-requires c κs = search needs
 
-keep-counters-requires : tie.Need-keep-counters-requires
-keep-counters-requires c κs = search needs
+leave-counters-requires : tie.Need-leave-counters-requires
+leave-counters-requires c κs = search needs
 
 give-requires : tie.Need-give-requires
 give-requires c κs = search needs
@@ -26,7 +26,7 @@ unfolding runCounterWords
 returns c = let r = c .before .before .before .before .before in
     rw (← r .before .before .counters-of .ensures) (
       answered-by (r .run .ensures .0) (c .give .ensures),
-      (r .run .ensures .1 .1, c .before .before .keep-counters .ensures ∙ rw (r .run .ensures .0, r .run .ensures .1 .0)),
+      (r .run .ensures .1 .1, c .before .before .leave-counters .ensures ∙ rw (r .run .ensures .0, r .run .ensures .1 .0)),
     )
 
 pub run-spec : {M : Type 1} → statement M
@@ -35,7 +35,7 @@ run-spec =
     (tie.spec
     counters-of-requires
     run-requires
-    keep-counters-requires
+    leave-counters-requires
     give-requires
     same-length
     returns)

@@ -27,11 +27,11 @@ choice-named-requires-3 c κs = search needs
 ready-made-requires : tie.Need-ready-made-requires
 ready-made-requires c κs = search needs
 
-put-ready-requires : tie.Need-put-ready-requires
-put-ready-requires c κs = search needs
+write-ready-requires : tie.Need-write-ready-requires
+write-ready-requires c κs = search needs
 
 returns : tie.Need-returns
-returns c = rw (← ready-is (c .before .before .before .before .before .before .before)) (c .put-ready .ensures)
+returns c = rw (← ready-is (c .before .before .before .before .before .before .before)) (c .write-ready .ensures)
 
 pub olsketina-camera-ready-made-spec : {M : Type 1} → statement M
 olsketina-camera-ready-made-spec =
@@ -41,5 +41,5 @@ olsketina-camera-ready-made-spec =
     choice-named-requires-2
     choice-named-requires-3
     ready-made-requires
-    put-ready-requires
+    write-ready-requires
     returns)

@@ -10,12 +10,12 @@ layout-at-requires c κs = search needs
 empty-requires : tie.Need-empty-requires
 empty-requires c κs = search needs
 
-put-table-requires : tie.Need-put-table-requires
-put-table-requires c κs = search needs
+write-table-requires : tie.Need-write-table-requires
+write-table-requires c κs = search needs
 
 returns : tie.Need-returns
-returns c = c .put-table .ensures ∙ rw (c .before .before .empty .ensures, c .before .before .before .layout-at .ensures)
+returns c = c .write-table .ensures ∙ rw (c .before .before .empty .ensures, c .before .before .before .layout-at .ensures)
 
 pub olsketina-regions-empty-spec : {M : Type 1} → statement M
 olsketina-regions-empty-spec =
-    tie.close (tie.spec layout-at-requires empty-requires put-table-requires returns)
+    tie.close (tie.spec layout-at-requires empty-requires write-table-requires returns)

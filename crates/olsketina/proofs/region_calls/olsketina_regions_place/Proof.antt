@@ -11,8 +11,8 @@ table-at-requires c κs = search needs
 place-requires : tie.Need-place-requires
 place-requires c κs = search needs
 
-keep-table-requires : tie.Need-keep-table-requires
-keep-table-requires c κs = search needs
+leave-table-requires : tie.Need-leave-table-requires
+leave-table-requires c κs = search needs
 
 give-requires : tie.Need-give-requires
 give-requires c κs = search needs
@@ -21,9 +21,9 @@ returns : tie.Need-returns
 returns c = let p = c .before .before .before .before .before in
     rw (← p .before .table-at .ensures) (
       answered-by (p .place .ensures .0) (c .give .ensures),
-      c .before .before .keep-table .ensures ∙ rw (p .place .ensures .0, p .place .ensures .1),
+      c .before .before .leave-table .ensures ∙ rw (p .place .ensures .0, p .place .ensures .1),
     )
 
 pub olsketina-regions-place-spec : {M : Type 1} → statement M
 olsketina-regions-place-spec =
-    tie.close (tie.spec table-at-requires place-requires keep-table-requires give-requires returns)
+    tie.close (tie.spec table-at-requires place-requires leave-table-requires give-requires returns)

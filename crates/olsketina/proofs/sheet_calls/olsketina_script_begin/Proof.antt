@@ -7,11 +7,11 @@ use Rattle.olsketina.proofs.sheet_calls.olsketina_script_begin.Tie as t
 begin-requires : tie.Need-begin-requires
 begin-requires c κs = search needs
 
-put-sheet-requires : tie.Need-put-sheet-requires
-put-sheet-requires c κs = search needs
+write-sheet-requires : tie.Need-write-sheet-requires
+write-sheet-requires c κs = search needs
 
 returns : tie.Need-returns
-returns c = let e = c .before .before .before .before .before .begin .ensures in (c .put-sheet .ensures ∙ rw e, rw e)
+returns c = let e = c .before .before .before .before .before .begin .ensures in (c .write-sheet .ensures ∙ rw e, rw e)
 
 pub olsketina-script-begin-spec : {M : Type 1} → statement M
-olsketina-script-begin-spec = tie.close (tie.spec begin-requires put-sheet-requires returns)
+olsketina-script-begin-spec = tie.close (tie.spec begin-requires write-sheet-requires returns)

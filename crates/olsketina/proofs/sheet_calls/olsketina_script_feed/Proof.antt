@@ -10,14 +10,14 @@ sheet-of-requires c κs = search needs
 feed-requires : tie.Need-feed-requires
 feed-requires c κs = search needs
 
-put-fed-requires : tie.Need-put-fed-requires
-put-fed-requires c κs = search needs
+write-fed-requires : tie.Need-write-fed-requires
+write-fed-requires c κs = search needs
 
 returns : tie.Need-returns
 returns c = let p = c .before .before .before .before in
-    let g = c .put-fed .ensures in
+    let g = c .write-fed .ensures in
     rw (← p .before .sheet-of .ensures, ← p .feed .ensures) (refl, (g .0, (g .1 .0, g .1 .1)))
 
 pub olsketina-script-feed-spec : {M : Type 1} → statement M
 olsketina-script-feed-spec =
-    tie.close (tie.spec sheet-of-requires feed-requires put-fed-requires returns)
+    tie.close (tie.spec sheet-of-requires feed-requires write-fed-requires returns)

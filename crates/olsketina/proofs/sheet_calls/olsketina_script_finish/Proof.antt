@@ -9,14 +9,14 @@ sheet-of-requires c κs = search needs
 finish-requires : tie.Need-finish-requires
 finish-requires c κs = search needs
 
-put-fed-requires : tie.Need-put-fed-requires
-put-fed-requires c κs = search needs
+write-fed-requires : tie.Need-write-fed-requires
+write-fed-requires c κs = search needs
 
 returns : tie.Need-returns
 returns c = let p = c .before .before .before .before in
-    let g = c .put-fed .ensures in
+    let g = c .write-fed .ensures in
     rw (← p .before .sheet-of .ensures, ← p .finish .ensures) g
 
 pub olsketina-script-finish-spec : {M : Type 1} → statement M
 olsketina-script-finish-spec =
-    tie.close (tie.spec sheet-of-requires finish-requires put-fed-requires returns)
+    tie.close (tie.spec sheet-of-requires finish-requires write-fed-requires returns)

@@ -13,15 +13,15 @@ use Rattle.olsketina.proofs.sheet_calls.olsketina_script_row_text.Tie a
 fields-text-requires : tie.Need-fields-text-requires
 fields-text-requires c κs = search needs
 
-put-text-requires : tie.Need-put-text-requires
-put-text-requires c κs = search needs
+write-text-requires : tie.Need-write-text-requires
+write-text-requires c κs = search needs
 
 returns : tie.Need-returns
 returns c = let f = c .before .before in
     let a = f .before .args in
     let e = f .fields-text .ensures ∙ ap (λ (z : ℤ). written (fieldsText (a .line) (a .answer) z)) (plain-value (a .value)) in
-    (c .put-text .ensures .0 ∙ ap (λ (l : Line). l .length) e, c .put-text .ensures .1 ∙ ap (λ (l : Line). l .bytes) e)
+    (c .write-text .ensures .0 ∙ ap (λ (l : Line). l .length) e, c .write-text .ensures .1 ∙ ap (λ (l : Line). l .bytes) e)
 
 pub olsketina-script-row-text-spec : {M : Type 1} → statement M
 olsketina-script-row-text-spec =
-    tie.close (tie.spec fields-text-requires put-text-requires returns)
+    tie.close (tie.spec fields-text-requires write-text-requires returns)

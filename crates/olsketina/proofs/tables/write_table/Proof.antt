@@ -1,12 +1,12 @@
--- `olsketina::tables::put_table` meets its contract. The loop's invariant: the first i words are written. Assumes nothing.
+-- `olsketina::tables::write_table` meets its contract. The loop's invariant: the first i words are written. Assumes nothing.
 use Prim.Native.Nat.{ℕ, _+_, _-_, _≤_}
 use native.Mathlib.Omega.{arith}
 use mathlib.Core.Path.{_≡_, sym, subst}
 use lib.ListN.{length, set}
 use Rattle.olsketina.specs.Sizes.{tableSize}
 use Rattle.olsketina.proofs.TableLaws.{Written, written-none, written-next, written-all}
-use Rattle.olsketina.proofs.tables.put_table.Statement.{statement}
-use Rattle.olsketina.proofs.tables.put_table.Tie as tie
+use Rattle.olsketina.proofs.tables.write_table.Statement.{statement}
+use Rattle.olsketina.proofs.tables.write_table.Tie as tie
 
 abbrev Inv-loop : tie.InvT-loop
 Inv-loop words₀ at table i₀ words i = (i ≤ tableSize) × Written table at words₀ i words
@@ -65,8 +65,8 @@ returns c =
     let all : l .loop .i ≡ tableSize = omega (arith, l .loop .inv .0) in
     written-all (a .table) (a .at) (a .words .now) (subst (λ (n : ℕ). Written (a .table) (a .at) (a .words .now) n (l .loop .words)) all (l .loop .inv .1))
 
-pub put-table-spec : {M : Type 1} → statement M
-put-table-spec =
+pub write-table-spec : {M : Type 1} → statement M
+write-table-spec =
     tie.close
     (tie.spec
     Inv-loop

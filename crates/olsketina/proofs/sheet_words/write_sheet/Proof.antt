@@ -1,9 +1,9 @@
--- `olsketina::sheet_words::put_sheet` meets its contract: the four words, then the table's. Assumes nothing.
+-- `olsketina::sheet_words::write_sheet` meets its contract: the four words, then the table's. Assumes nothing.
 use mathlib.Core.Path.{_∙_}
 use Rattle.olsketina.specs.Sheets.{withProgress, withSheet}
 use borrow.Author.Needs.{needs}
-use Rattle.olsketina.proofs.sheet_words.put_sheet.Statement.{statement}
-use Rattle.olsketina.proofs.sheet_words.put_sheet.Tie as tie
+use Rattle.olsketina.proofs.sheet_words.write_sheet.Statement.{statement}
+use Rattle.olsketina.proofs.sheet_words.write_sheet.Tie as tie
 
 element-copy-out-old : tie.Need-element-copy-out-old
 element-copy-out-old c = search needs
@@ -29,15 +29,15 @@ flag-word-requires c κs = search needs
 element-write-words-4 : tie.Need-element-write-words-4
 element-write-words-4 c = search needs
 
-put-table-requires : tie.Need-put-table-requires
-put-table-requires c κs = search needs
+write-table-requires : tie.Need-write-table-requires
+write-table-requires c κs = search needs
 
 returns : tie.Need-returns
 unfolding withSheet withProgress
-returns c = c .put-table .ensures ∙ rw (c .before .before .flag-word .ensures)
+returns c = c .write-table .ensures ∙ rw (c .before .before .flag-word .ensures)
 
-pub put-sheet-spec : {M : Type 1} → statement M
-put-sheet-spec =
+pub write-sheet-spec : {M : Type 1} → statement M
+write-sheet-spec =
     tie.close
     (tie.spec
     element-copy-out-old
@@ -48,5 +48,5 @@ put-sheet-spec =
     element-write-words-3
     flag-word-requires
     element-write-words-4
-    put-table-requires
+    write-table-requires
     returns)

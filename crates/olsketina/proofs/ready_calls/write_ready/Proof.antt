@@ -1,8 +1,8 @@
--- `olsketina::ready_calls::put_ready` meets its contract: settings are stored, a refusal leaves the words. Assumes nothing.
+-- `olsketina::ready_calls::write_ready` meets its contract: settings are stored, a refusal leaves the words. Assumes nothing.
 use mathlib.Core.Path.{refl}
 use borrow.Author.Needs.{needs}
-use Rattle.olsketina.proofs.ready_calls.put_ready.Statement.{statement}
-use Rattle.olsketina.proofs.ready_calls.put_ready.Tie as tie
+use Rattle.olsketina.proofs.ready_calls.write_ready.Statement.{statement}
+use Rattle.olsketina.proofs.ready_calls.write_ready.Tie as tie
 
 enum-known-ready : tie.Need-enum-known-ready
 enum-known-ready c = search needs
@@ -46,8 +46,8 @@ returns-2 c = rw (c .before .before .before .before .before .before .before .bef
   },
 )
 
-pub put-ready-spec : {M : Type 1} → statement M
-put-ready-spec =
+pub write-ready-spec : {M : Type 1} → statement M
+write-ready-spec =
     tie.close
     (tie.spec
     enum-known-ready
