@@ -1,5 +1,5 @@
 -- The lookup's checks of the ready-made settings and the two tables: all but the last two pass, whatever the select. Assumes nothing.
---     accepted-but      what the lookup answers
+--     accepted-but, accepted-where      what the lookup answers; and where both last checks hold
 use Prim.Native.Nat.{ℕ, _+_, _-_, _≤_}
 use native.Mathlib.Nat.{le-refl}
 use native.Mathlib.Omega.{arith}
@@ -9,10 +9,11 @@ use mathlib.Core.List.{List, [], _∷_}
 use lib.Dec.{leb, eqb}
 use lib.IntN.{ℤ, pos, negsuc, _+ℤ_, _-ℤ_, +ℤ-idl}
 use lib.ListN.{length}
-use borrow.Author.Tests.{le-leb}
+use borrow.Author.Tests.{le-leb, eq-eqb}
 use Rattle.refusal.specs.declared.Refusal.the-variants.{TableLength, XSelect, XEnd, YSelect, YEnd, Shift, Counters as CounterLimit, OutputLength}
+use Rattle.refusal.specs.declared.Answer.the-variants.{Accepted}
 use Rattle.refusal.specs.Checks.{require, inOrder}
-use Rattle.refusal.proofs.CheckLaws.{inOrder-next}
+use Rattle.refusal.proofs.CheckLaws.{inOrder-nil, inOrder-next}
 use Rattle.lut.specs.declared.Counters.{Counters}
 use Rattle.lut.specs.Numbers.{between, scaled}
 use Rattle.lut.specs.Rules.{modeValid, sameZ, endValid, shiftValid, counterSum, lutChecks}
@@ -55,3 +56,11 @@ module _ (s : ℕ) (low : 2 ≤ s) (high : s ≤ 22) (priority overflow underflo
       ∙ inOrder-next 0 YSelect _ (wide-between 7 23 s (omega arith))
       ∙ inOrder-next 0 YEnd _ (same-end (scaled 256 (pos s)))
       ∙ inOrder-next 0 Shift _ refl
+
+  pub accepted-where : (samples : List ℤ) (outputs : ℕ) (c : Counters) → outputs ≡ length samples → counterSum c + length samples ≤ 4294967295
+      → runAnswer (readySettings (pos s) priority overflow underflow) xTable yTable samples outputs c ≡ Accepted
+  accepted-where samples outputs c e h =
+      accepted-but samples outputs c
+      ∙ inOrder-next 0 OutputLength _ (eq-eqb outputs (length samples) e)
+      ∙ inOrder-next 0 CounterLimit _ (le-leb (counterSum c + length samples) 4294967295 h)
+      ∙ inOrder-nil

@@ -1,16 +1,14 @@
 -- The claims about the camera curve and its ready-made settings (scope paper, "Two tables"). Assumes nothing.
 use Prim.Native.Nat.{ℕ, _+_, _*_, _≤_, _<_, min}
-use mathlib.Core.Path.{_≡_, refl, sym, _∙_}
+use mathlib.Core.Path.{_≡_, refl, sym}
 use mathlib.Core.Bool.{false}
 use mathlib.Core.List.{List, [], _∷_}
 use lib.Dec.{leb, eqb}
 use lib.IntN.{ℤ, pos, natAbs}
 use lib.ListN.{length, getD}
-use borrow.Author.Tests.{le-leb, eq-eqb}
 use Rattle.refusal.specs.declared.Refusal.the-variants.{OutputLength, YSelect, Counters as CounterLimit}
 use Rattle.refusal.specs.declared.Answer.the-variants.{Accepted}
 use Rattle.refusal.specs.Checks.{require, inOrder}
-use Rattle.refusal.proofs.CheckLaws.{inOrder-nil, inOrder-next}
 use Rattle.lut.specs.declared.Counters.{Counters}
 use Rattle.lut.specs.Numbers.{between}
 use Rattle.lut.specs.Rules.{counterSum}
@@ -21,7 +19,7 @@ use Rattle.camera.specs.Curve.{curveX, curveY, xTable, yTable}
 use Rattle.camera.specs.Ready.{readySettings, readyAnswer}
 use Rattle.camera.proofs.CurveLaws.{curve-rule, entry-read}
 use Rattle.camera.proofs.ReadyLaws.{pos-between, answer-setting, answer-refused}
-use Rattle.camera.proofs.AcceptedLaws.{accepted-but}
+use Rattle.camera.proofs.AcceptedLaws.{accepted-but, accepted-where}
 
 -- entry i of Y is the greatest whole e with e² ≤ i·1048576
 pub y-rule : (i : ℕ) → i ≤ 256 → let e = natAbs (curveY i) in (e * e ≤ i * 1048576) × (i * 1048576 < (e + 1) * (e + 1))
@@ -60,8 +58,4 @@ module _ (priority overflow underflow : Choice) where
     -- and accepts them where these two are right
     pub accepted : outputs ≡ length samples → counterSum c + length samples ≤ 4294967295
         → runAnswer (readySettings (pos s) priority overflow underflow) xTable yTable samples outputs c ≡ Accepted
-    accepted e h =
-        accepted-but-lengths
-        ∙ inOrder-next 0 OutputLength _ (eq-eqb outputs (length samples) e)
-        ∙ inOrder-next 0 CounterLimit _ (le-leb (counterSum c + length samples) 4294967295 h)
-        ∙ inOrder-nil
+    accepted e h = accepted-where s low high priority overflow underflow samples outputs c e h

@@ -4,7 +4,7 @@
 --     CurveLaws        a stored curve by one test of all its entries; the entries of a table
 --     ReadyLaws        the ready-made settings as the code makes them, and its tests
 --     AcceptedLaws     the lookup's checks of the ready-made settings
---     Claims       the claims about the curve and its settings, each proof a citation
+--     Claims           the claims about the curve and its settings, each proof a citation
 pub mod Computed
 pub mod RootLaws
 pub mod CurveLaws

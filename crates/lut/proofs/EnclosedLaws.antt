@@ -29,9 +29,8 @@ use Rattle.lut.specs.Steps.{xValid}
 use Rattle.lut.specs.Hits.{Amid, Enclosed, linearIndex, exponentialIndex, indexX, indexY}
 use Rattle.lut.proofs.HitLaws.{interpolated-rising, interpolated-falling, interpolated-first, fine, unit, line-le, line-step, line-last, linearHit-is}
 use Rattle.lut.proofs.LogLaws.{hit-range, hit-index}
-use Rattle.lut.proofs.AnswerLaws.{linear-hit, hit-distance}
+use Rattle.lut.proofs.AnswerLaws.{linear-hit, hit-distance, hit-far}
 use Rattle.lut.proofs.SideLaws.{xValid-offset, xValid-linear}
-use Rattle.lut.proofs.ServeLaws.{hit-far}
 
 -- ---- an interpolated number
 

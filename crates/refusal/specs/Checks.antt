@@ -13,7 +13,7 @@ unfoldable pub requireAt : ℕ → Refusal → Bool → Answer
 requireAt at r true = Accepted
 requireAt at r false = Refused r at
 
--- one check that concerns no single element: its place is 0
+-- one check that concerns no single element: its index at fault is 0
 abbrev pub require : Refusal → Bool → Answer
 require r holds = requireAt 0 r holds
 

@@ -8,31 +8,41 @@
 --     boxIn-region .. boxIn-at              a box in a rectangle, test after test
 --     foundBox-slot, foundBox-in            a box in a region, test after test
 --     found-refused, found-at               what it tells
+--     edit-refused, edit-found              an edit refused by 1 to 4, 8, 9, and past them
+--     read-refused, read-found              a read
+--     position-refused, position-found      a position refused, and given
 use Prim.Native.Nat.{ℕ, _+_, _≤_, _<_}
 use native.Mathlib.Omega.{arith}
 use mathlib.Core.Path.{_≡_, refl, sym, ap, _∙_}
 use mathlib.Core.Bool.{Bool, true, false, not, cond, _&&_}
-use mathlib.Core.List.{List, map}
+use mathlib.Core.List.{List, map, append-assoc}
 use lib.ListN.{length, getD, length-map, List·getD-map}
 use lib.Dec.{ltb}
 use borrow.Author.Tests.{lt-ltb, le-ltb}
+use lib.IntN.{ℤ}
 use Rattle.refusal.specs.declared.Answer.{Answer}
 use Rattle.refusal.specs.declared.Answer.the-variants.{Accepted, Refused}
 use Rattle.refusal.specs.declared.Refusal.{Refusal}
 use Rattle.refusal.specs.declared.Refusal.the-variants.{Bounds}
 use Rattle.refusal.specs.Checks.{requireAt, inOrder, result}
-use Rattle.refusal.proofs.CheckLaws.{inOrder-passed, inOrder-refused, result-refused}
-use Rattle.layout.proofs.Valid.{Valid}
+use Rattle.refusal.specs.declared.Quantity.the-variants.{Refused as NotGiven}
+use Rattle.refusal.proofs.CheckLaws.{inOrder-passed, inOrder-refused, result-refused, leaves-before, result-given}
 use Rattle.layout.specs.declared.CubeLayout.{CubeLayout}
 use Rattle.layout.specs.declared.ElementBox.{ElementBox}
+use Rattle.layout.specs.Boxes.{oneElement, boxCount}
+use Rattle.layout.specs.Rules.{boxChecks, admitChecks}
+use Rattle.layout.specs.Calls.{writeBoxAnswer, writeBoxBuffer, readBoxAnswer, readBoxElements, positionQuantity}
+use Rattle.layout.proofs.Valid.{Valid}
 use Rattle.regions.specs.declared.Rectangle.{Rectangle}
 use Rattle.regions.specs.declared.Region.{Region}
 use Rattle.regions.specs.declared.RegionTable.{RegionTable}
 use Rattle.regions.specs.declared.rules.FoundBox.the-variants.{At, Refused as NotFound}
 use Rattle.regions.specs.Slots.{rectangle, Slot, empty, filled, slotOf, slotsOf, overlaps, rectangleInside}
-use Rattle.regions.specs.Rules.{Access, slotAt, isFilled, rectangleOf, rectangleNamed, boxInRectangle, cubeBox, regionBox, slotChecks, regionBoxChecks}
+use Rattle.regions.specs.Rules.{Access, slotAt, isFilled, rectangleOf, rectangleNamed, boxInRectangle, cubeBox, regionBox, slotChecks, regionBoxChecks, accessOf, readChecks, editChecks}
 use Rattle.regions.specs.Steps.{boxIn, foundBox}
+use Rattle.regions.specs.Calls.{editAnswer, editBuffer, readAnswer, readElements, regionPosition}
 use Rattle.regions.proofs.RuleLaws.{ValidBounds}
+use Rattle.regions.proofs.CallLaws.{box-passes, after-9}
 
 -- a struct with no region placed
 abbrev noRegion : Region
@@ -132,3 +142,50 @@ module _ (a : Access) (b : ElementBox) where
   pub found-at : {box : ElementBox} → foundBox a b ≡ At box → (inOrder (regionBoxChecks a b) ≡ Accepted) × (box ≡ regionBox a b)
   unfolding foundBox
   found-at e = at-of _ _ e
+
+-- ---- edit and read: refused before the box is found, and past it
+module _ (t : RegionTable) (n : ℕ) (b : ElementBox) where
+  module _ (xs : List ℤ) (before : List ℕ) where
+    pub edit-refused : {r : Refusal} {i : ℕ} → foundBox (accessOf t n) b ≡ NotFound r i
+        → (Refused r i ≡ editAnswer t n b xs (length before)) × (before ≡ editBuffer t n b xs before)
+    unfolding editAnswer editChecks editBuffer
+    edit-refused e =
+        let denied = inOrder-refused (regionBoxChecks (accessOf t n) b) _ (found-refused (accessOf t n) b e) in
+        (sym denied, sym (leaves-before _ before denied))
+
+    pub edit-found : {box : ElementBox} → foundBox (accessOf t n) b ≡ At box
+        → (writeBoxAnswer (t .layout) box xs (length before) ≡ editAnswer t n b xs (length before)) × (writeBoxBuffer (t .layout) box xs before ≡ editBuffer t n b xs before)
+    unfolding writeBoxAnswer writeBoxBuffer admitChecks editAnswer editChecks editBuffer boxCount
+    edit-found e =
+        let f = found-at (accessOf t n) b e in
+        let same =
+        ap inOrder (append-assoc (boxChecks (t .layout) (regionBox (accessOf t n) b)) _ _) ∙ after-9 (accessOf t n) b _ (f .0) in
+        (rw (f .1) same, rw (f .1, same))
+
+  module _ (buffer : List ℕ) (before : List ℤ) where
+    pub read-refused : {r : Refusal} {i : ℕ} → foundBox (accessOf t n) b ≡ NotFound r i
+        → (Refused r i ≡ readAnswer t n b (length before) (length buffer)) × (before ≡ readElements t n b buffer before)
+    unfolding readAnswer readChecks readElements
+    read-refused e =
+        let denied = inOrder-refused (regionBoxChecks (accessOf t n) b) _ (found-refused (accessOf t n) b e) in
+        (sym denied, sym (leaves-before _ before denied))
+
+    pub read-found : {box : ElementBox} → foundBox (accessOf t n) b ≡ At box
+        → (readBoxAnswer (t .layout) box (length before) (length buffer) ≡ readAnswer t n b (length before) (length buffer)) × (readBoxElements (t .layout) box buffer before ≡ readElements t n b buffer before)
+    unfolding readBoxAnswer readBoxElements admitChecks readAnswer readChecks readElements boxCount
+    read-found e =
+        let f = found-at (accessOf t n) b e in
+        let same = after-9 (accessOf t n) b _ (f .0) in
+        (rw (f .1) same, rw (f .1, same))
+
+-- ---- position
+module _ (t : RegionTable) (n c h w : ℕ) where
+  pub position-refused : {r : Refusal} {i : ℕ} → foundBox (accessOf t n) (oneElement c h w) ≡ NotFound r i → NotGiven r i ≡ regionPosition t n c h w
+  unfolding regionPosition
+  position-refused e = sym (result-refused _ _ _ (found-refused (accessOf t n) (oneElement c h w) e))
+
+  pub position-found : {box : ElementBox} → foundBox (accessOf t n) (oneElement c h w) ≡ At box → positionQuantity (t .layout) (box .channel) (box .row) (box .column) ≡ regionPosition t n c h w
+  unfolding regionPosition positionQuantity
+  position-found e =
+      let f = found-at (accessOf t n) (oneElement c h w) e in
+      rw (f .1) (result-given _ _ _ (box-passes (accessOf t n) (oneElement c h w) (f .0)) ∙ sym (result-given _ _ _ (f .0)))

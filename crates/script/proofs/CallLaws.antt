@@ -1,6 +1,6 @@
 -- One call of `feed`, by whether its part has a newline; and the calls for a part, one after another. By induction on the calls. Assumes nothing.
 --     longer, fed-open, fed-ended             what a call gives
---     feed-ended, feed-open, line-fed         what the code makes of a call
+--     feed-ended, feed-open                   what the code makes of a call
 --     read-within, read-some                  how many bytes of a part a call reads
 --     calls-enough                            calls past a part's length give nothing more
 --     part-next                               one call more for a part
@@ -13,21 +13,15 @@ use mathlib.Core.Bool.{true, false}
 use mathlib.Core.List.{List, [], _∷_}
 use lib.ListN.{length, take, drop, length-drop}
 use lib.Seq.{drop-drop}
-use Rattle.lines.specs.declared.Lines.{Lines}
 use Rattle.lines.specs.declared.Collected.{Collected}
 use Rattle.lines.specs.Texts.{partLength}
-use Rattle.lines.specs.Collecting.{added, nextLines, collected}
+use Rattle.lines.specs.Collecting.{added, collected}
 use Rattle.lines.proofs.SplitLaws.{partLength-le, part-whole}
 use Rattle.lines.proofs.StepLaws.{collected-ended, collected-open}
-use Rattle.records.specs.declared.Record.{Record}
-use Rattle.records.specs.Records.{lineRecord}
 use Rattle.script.specs.declared.Sheet.{Sheet}
 use Rattle.script.specs.declared.Fed.{Fed}
-use Rattle.script.specs.declared.After.{After}
-use Rattle.script.specs.declared.Given.the-variants.{Nothing, Line}
-use Rattle.script.specs.Sheets.{rowOf}
-use Rattle.script.specs.Steps.{desk, afterRecord}
-use Rattle.script.specs.Feed.{withLines, lineEnded, lineRow, lineFed, fed, andThen, Outcome, thenFed, partFed}
+use Rattle.script.specs.declared.Given.the-variants.{Nothing}
+use Rattle.script.specs.Feed.{withLines, lineFed, fed, andThen, thenFed, partFed}
 
 -- ---- one call
 
@@ -67,19 +61,6 @@ module _ (s : Sheet) (part : List ℕ) where
     pub feed-open : c .ended ≡ false → _≡_ {A = Fed} (record { sheet = withLines s (c .lines); read = c .read; given = Nothing }) (fed s part)
     unfolding fed
     feed-open t = rw (← e, t)
-
--- a line ended is its record's row, and the state after it
-pub line-fed : (s : Sheet) (read : ℕ) {r : Record} {l : Lines} {a : After} → r ≡ lineRecord (s .lines .line) → l ≡ nextLines (s .lines)
-    → a ≡ afterRecord (desk (s .framed) (s .table)) r
-    → _≡_ {A = Fed}
-    (record {
-      sheet = record { lines = l; framed = a .framed; table = a .table };
-      read = read;
-      given = Line (record { line = l .count; answer = a .answer; value = a .value });
-    })
-    (lineFed s read)
-unfolding lineEnded lineRow rowOf afterRecord
-line-fed s read e f g = rw (g, e, f)
 
 -- ---- calls enough
 

@@ -19,3 +19,7 @@ rowsAfter n d (line ∷ lines) = rowOf (n + 1) d (recordOf line) ∷ rowsAfter (
 -- the rows of an input, its lines counted from 1
 unfoldable pub sheet : List ℕ → List Row
 sheet input = rowsAfter 0 startDesk (linesOf input)
+
+-- the number of a row's line
+abbrev pub lineNumber : Row → ℕ
+lineNumber r = r .line

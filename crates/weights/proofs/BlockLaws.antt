@@ -13,7 +13,8 @@ use Rattle.elements.proofs.ByteLaws.{elementBytes-le}
 use Rattle.weights.specs.declared.WeightLayout.{WeightLayout}
 use Rattle.weights.specs.declared.walk.Run.{Run}
 use Rattle.weights.specs.Geometry.{sizeOf, groupKernels, blockChannels}
-use Rattle.weights.specs.Steps.{pixelNumber, pixelIndex, groupIn, AtRun, widthOf, runColumns}
+use Rattle.weights.specs.StepsPixels.{pixelNumber, pixelIndex}
+use Rattle.weights.specs.Steps.{groupIn, AtRun, widthOf, runColumns}
 use Rattle.weights.proofs.Valid.{Valid}
 use Rattle.weights.proofs.NumberLaws.{groupSize-le}
 use Rattle.weights.proofs.BoundLaws.{pixels-le}

@@ -4,18 +4,16 @@
 --     pack-refused, pack-outside, pack-valid, unpack-refused, unpack-valid     answer and contents by the checks
 use Prim.Native.Nat.{ℕ, _≤_, _<_}
 use mathlib.Core.Path.{_≡_, sym, _∙_}
-use mathlib.Core.Bool.{Bool, true}
-use mathlib.Core.List.{List, [], _∷_}
+use mathlib.Core.Bool.{true}
+use mathlib.Core.List.{List}
 use lib.ListN.{length}
-use lib.Dec.{leb, ltb, eqb}
 use lib.IntN.{ℤ}
 use borrow.Author.Tests.{leb-true, ltb-true, eqb-true}
 use Rattle.refusal.specs.declared.Answer.{Answer}
 use Rattle.refusal.specs.declared.Answer.the-variants.{Accepted, Refused}
 use Rattle.refusal.specs.declared.Refusal.{Refusal}
-use Rattle.refusal.specs.declared.Refusal.the-variants.{Size, Precision, BufferLength, ElementCount}
-use Rattle.refusal.specs.Checks.{inOrder, require}
-use Rattle.refusal.proofs.CheckLaws.{inOrder-held, inOrder-rest, inOrder-front, inOrder-back, inOrder-passed, inOrder-refused, leaves-done, leaves-before}
+use Rattle.refusal.specs.Checks.{inOrder}
+use Rattle.refusal.proofs.CheckLaws.{Held, inOrder-all, requireAt-held, inOrder-front, inOrder-back, inOrder-passed, inOrder-refused, leaves-done, leaves-before}
 use Rattle.elements.specs.Values.{valueChecks}
 use Rattle.weights.specs.declared.WeightLayout.{WeightLayout}
 use Rattle.weights.specs.Geometry.{elementCount, surfaceBytes}
@@ -33,25 +31,16 @@ pub record Admitted (q : WeightLayout) (given len : ℕ) : Type 0 where
   pub room : surfaceBytes q ≤ len
 
 pub admitted : (q : WeightLayout) (given len : ℕ) → inOrder (weightChecks q given len) ≡ Accepted → Admitted q given len
-unfolding weightChecks
+unfolding weightChecks Held
 admitted q given len e =
-    let sz : Bool = sizesValid q in
-    let pr : Bool = ltb (q .precision) 3 in
-    let co : Bool = eqb given (elementCount q) in
-    let ro : Bool = leb (surfaceBytes q) len in
-    let r3 : List Answer = require BufferLength ro ∷ [] in
-    let r2 : List Answer = require ElementCount co ∷ r3 in
-    let r1 : List Answer = require Precision pr ∷ r2 in
-    let e1 = inOrder-rest 0 Size sz r1 e in
-    let e2 = inOrder-rest 0 Precision pr r2 e1 in
-    let e3 = inOrder-rest 0 ElementCount co r3 e2 in
-    let s = inOrder-held 0 Size sz r1 e in
+    let held = inOrder-all _ e in
+    let s = requireAt-held _ _ _ (held .0) in
     record {
       sizes = s;
-      precision-lt = ltb-true (q .precision) 3 (inOrder-held 0 Precision pr r2 e1);
+      precision-lt = ltb-true (q .precision) 3 (requireAt-held _ _ _ (held .1 .0));
       layout = valid q s;
-      count = eqb-true given (elementCount q) (inOrder-held 0 ElementCount co r3 e2);
-      room = leb-true (surfaceBytes q) len (inOrder-held 0 BufferLength ro [] e3);
+      count = eqb-true given (elementCount q) (requireAt-held _ _ _ (held .1 .1 .0));
+      room = leb-true (surfaceBytes q) len (requireAt-held _ _ _ (held .1 .1 .1 .0));
     }
 
 module _ (q : WeightLayout) (raw : List ℤ) (before : List ℕ) where

@@ -16,7 +16,8 @@ use Rattle.columns.proofs.BlockLaws.{BlockFits}
 use Rattle.weights.specs.declared.WeightLayout.{WeightLayout}
 use Rattle.weights.specs.declared.walk.Run.{Run}
 use Rattle.weights.specs.Geometry.{sizeOf, elementCount, groupKernels, blockChannels, rawAt}
-use Rattle.weights.specs.Steps.{pixelNumber, pixelIndex, groupIn, AtRun, widthOf, runColumns, pixelColumns, channelColumns}
+use Rattle.weights.specs.StepsPixels.{pixelNumber, pixelIndex}
+use Rattle.weights.specs.Steps.{groupIn, AtRun, widthOf, runColumns, pixelColumns, channelColumns}
 use Rattle.weights.proofs.Valid.{Valid}
 use Rattle.weights.proofs.NumberLaws.{Place, number-lt, rawAt-pixel}
 use Rattle.weights.proofs.IndexLaws.{rawAt-lt}

@@ -10,7 +10,7 @@ use mathlib.Core.Path.{_≡_, refl, sym, ap, _∙_, subst}
 use lib.Arith.{digits-div, digits-mod, digits-lt}
 use Rattle.weights.specs.declared.WeightLayout.{WeightLayout}
 use Rattle.weights.specs.Geometry.{groupOf, elementCount, rawIndex, groupKernels, blockChannels, offsetNumber, elementNumber, rawAt, numberAt}
-use Rattle.weights.specs.Steps.{pixelNumber, pixelIndex}
+use Rattle.weights.specs.StepsPixels.{pixelNumber, pixelIndex}
 use Rattle.weights.proofs.NumberLaws as number
 use Rattle.weights.proofs.NumberLaws.{groupSize-pos, Place, rawAt-pixel}
 pub use Rattle.weights.specs.Places.{Element}

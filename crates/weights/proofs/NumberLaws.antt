@@ -12,7 +12,7 @@ use mathlib.Core.Path.{_≡_, refl, ap, _∙_}
 use lib.Arith.{digits-div, digits-mod, digits-lt}
 use Rattle.weights.specs.declared.WeightLayout.{WeightLayout}
 use Rattle.weights.specs.Geometry.{groupSize, groupOf, elementCount, rawIndex, groupKernels, blockChannels, groupElements, groupAt, inGroup, blockAt, inBlock, pixelAt, kernelAt, channelAt, rawAt}
-use Rattle.weights.specs.Steps.{pixelNumber, pixelIndex}
+use Rattle.weights.specs.StepsPixels.{pixelNumber, pixelIndex}
 
 pub groupSize-pos : (p : ℕ) → 0 < groupSize p
 unfolding groupSize

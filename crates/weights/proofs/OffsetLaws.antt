@@ -8,7 +8,7 @@ use native.Mathlib.Omega.{arith}
 use mathlib.Core.Path.{_≡_, ap}
 use Rattle.weights.specs.declared.WeightLayout.{WeightLayout}
 use Rattle.weights.specs.Geometry.{groupOf, elementCount, groupKernels, blockChannels, groupElements, groupAt, inGroup, blockAt, inBlock, pixelAt}
-use Rattle.weights.specs.Steps.{pixelNumber}
+use Rattle.weights.specs.StepsPixels.{pixelNumber}
 use Rattle.weights.proofs.Valid.{Valid}
 use Rattle.weights.proofs.NumberLaws.{groupSize-pos, Place}
 

@@ -12,7 +12,8 @@ use Rattle.elements.proofs.Toward.{Toward, toward-refl, toward-trans}
 use Rattle.weights.specs.declared.WeightLayout.{WeightLayout}
 use Rattle.weights.specs.declared.walk.Run.{Run}
 use Rattle.weights.specs.Geometry.{groupOf, elementCount, groupKernels, blockChannels, groupAt, blockAt, pixelAt, inBlock}
-use Rattle.weights.specs.Steps.{pixelNumber, groupIn, AtKernel, AtRun, rankOf, NextRun}
+use Rattle.weights.specs.StepsPixels.{pixelNumber}
+use Rattle.weights.specs.Steps.{groupIn, AtKernel, AtRun, rankOf, NextRun}
 use Rattle.weights.proofs.Valid.{Valid}
 use Rattle.weights.proofs.OffsetLaws.{group-below, block-below, place-at, number-at}
 use Rattle.weights.proofs.RunLaws.{run-small, group-of, first-run}

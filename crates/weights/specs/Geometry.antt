@@ -31,7 +31,7 @@ groupKernels q g = min (groupOf q) (q .kernels - g * groupOf q)
 unfoldable pub blockChannels : WeightLayout → ℕ → ℕ
 blockChannels q b = min 64 (q .channels - b * 64)
 
--- the number of place d in block b of kernel j of group g, at row r and column s
+-- the number of offset d in block b of kernel j of group g, at row r and column s
 unfoldable pub offsetNumber : WeightLayout → ℕ → ℕ → ℕ → ℕ → ℕ → ℕ → ℕ
 offsetNumber q g j b d r s =
     g * groupOf q * q .rows * q .columns * q .channels
@@ -57,7 +57,7 @@ surfaceBytes q = (elementCount q * sizeOf q + 127) / 128 * 128
 unfoldable pub groupElements : WeightLayout → ℕ
 groupElements q = groupOf q * q .rows * q .columns * q .channels
 
--- the group of number i; the place in its group; the block there; the place in that block; the place's pixel r·S + s; kernel and channel
+-- the group of number i; the offset in its group; the block there; the offset in that block; its pixel r·S + s; kernel and channel
 unfoldable pub groupAt : WeightLayout → ℕ → ℕ
 groupAt q i = i / groupElements q
 

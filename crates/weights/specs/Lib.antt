@@ -3,4 +3,5 @@ pub mod Places
 pub mod Rules
 pub mod Contents
 pub mod Calls
+pub mod StepsPixels
 pub mod Steps

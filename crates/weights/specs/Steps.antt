@@ -13,18 +13,7 @@ use Rattle.weights.specs.declared.WeightLayout.{WeightLayout}
 use Rattle.weights.specs.declared.walk.Run.{Run}
 use Rattle.weights.specs.Geometry.{sizeOf, groupOf, elementCount, groupKernels, blockChannels}
 use Rattle.weights.specs.Contents.{packedByte}
-
--- the number of channel d of block b of kernel j of group g at pixel t
-unfoldable pub pixelNumber : WeightLayout → (g b t j d : ℕ) → ℕ
-pixelNumber q g b t j d =
-    g * groupOf q * q .rows * q .columns * q .channels
-    + b * 64 * q .rows * q .columns * groupKernels q g
-    + (t * groupKernels q g + j) * blockChannels q b
-    + d
-
--- the raw index of that element
-unfoldable pub pixelIndex : WeightLayout → (g b t j d : ℕ) → ℕ
-pixelIndex q g b t j d = ((g * groupOf q + j) * q .channels + (b * 64 + d)) * (q .rows * q .columns) + t
+use Rattle.weights.specs.StepsPixels.{pixelNumber, pixelIndex}
 
 -- ---- runs
 

@@ -1,6 +1,6 @@
 -- `regions::edit` meets its contract: a call refused by 1 to 4, 8 or 9 writes nothing, and past them it writes the box that was found. Assumes nothing.
 use mathlib.Core.Path.{refl, sym, _∙_}
-use Rattle.regions.proofs.CallLaws.{edit-refused, edit-found}
+use Rattle.regions.proofs.StepLaws.{edit-refused, edit-found}
 use borrow.Author.Needs.{needs}
 use Rattle.regions.proofs.edit.Statement.{statement}
 use Rattle.regions.proofs.edit.Tie as tie

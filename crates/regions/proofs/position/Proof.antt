@@ -1,6 +1,6 @@
 -- `regions::position` meets its contract: past check 9 it is the cube's position of the box that was found. Assumes nothing.
 use mathlib.Core.Path.{sym, _∙_}
-use Rattle.regions.proofs.CallLaws.{position-refused, position-found}
+use Rattle.regions.proofs.StepLaws.{position-refused, position-found}
 use borrow.Author.Needs.{needs}
 use Rattle.regions.proofs.position.Statement.{statement}
 use Rattle.regions.proofs.position.Tie as tie

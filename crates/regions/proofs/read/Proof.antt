@@ -1,6 +1,6 @@
 -- `regions::read` meets its contract: a call refused by 1 to 4, 8 or 9 fills nothing, and past them it reads the box that was found. Assumes nothing.
 use mathlib.Core.Path.{refl, sym, _∙_}
-use Rattle.regions.proofs.CallLaws.{read-refused, read-found}
+use Rattle.regions.proofs.StepLaws.{read-refused, read-found}
 use borrow.Author.Needs.{needs}
 use Rattle.regions.proofs.read.Statement.{statement}
 use Rattle.regions.proofs.read.Tie as tie

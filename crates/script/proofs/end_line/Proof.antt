@@ -1,5 +1,5 @@
 -- `script::end_line` meets its contract: the row and the state are made of the line's record, number and answer. Assumes nothing.
-use Rattle.script.proofs.CallLaws.{line-fed}
+use Rattle.script.proofs.AnswerLaws.{line-fed}
 use borrow.Author.Needs.{needs}
 use Rattle.script.proofs.end_line.Statement.{statement}
 use Rattle.script.proofs.end_line.Tie as tie

@@ -14,7 +14,7 @@ use Rattle.lut.proofs.SideLaws.{yValid-parts, xValid-mode, xValid-below
 use Rattle.lut.proofs.PointLaws.{stored-kept}
 use Rattle.lut.proofs.PlanLaws.{pairNumber, pair-is, ready-by, planned-ready, planned-answer}
 use Rattle.lut.proofs.LoopLaws.{nothing-seen, map-ranged, count-ranged}
-use Rattle.lut.proofs.KindLaws.{seen-counted, seen-room}
+use Rattle.lut.proofs.PairLaws.{seen-counted, seen-room}
 use Rattle.lut.proofs.samples.answer_all.Statement.{statement}
 use Rattle.lut.proofs.samples.answer_all.Tie as tie
 
