@@ -83,10 +83,10 @@ fn on_packed(command: u32, n: [u64; 16], elements: &mut [i16], buffer: &mut [u8]
     match command {
         21 => cube::pack(cube_layout(n), elements, buffer),
         22 => cube::write_box(cube_layout(n), box_at(n, 7), elements, buffer),
-        23 => weights::pack(weight_layout(n), elements, buffer),
+        23 => weights_calls::pack(weight_layout(n), elements, buffer),
         25 => cube::unpack(cube_layout(n), buffer, elements),
         26 => cube::read_box(cube_layout(n), box_at(n, 7), buffer, elements),
-        _ => weights::unpack(weight_layout(n), buffer, elements),
+        _ => weights_calls::unpack(weight_layout(n), buffer, elements),
     }
 }
 
@@ -107,7 +107,7 @@ fn with_slot(n: [u64; 16], table: RegionTable) -> RegionTable {
 fn made(command: u32, n: [u64; 16], table: RegionTable) -> RegionTable {
     let mut t = table;
     match command {
-        29 => t = regions::empty(cube_layout(n)),
+        29 => t = regions_calls::empty(cube_layout(n)),
         31 => t = with_slot(n, table),
         32 => t.layout = cube_layout(n),
         _ => {}
@@ -118,9 +118,9 @@ fn made(command: u32, n: [u64; 16], table: RegionTable) -> RegionTable {
 // The calls from 29 to 33, which look at no list: `desk`, `place`, by hand, `pixel setting`. Prints the answer; the table after it.
 pub fn call_apart(line: u64, command: u32, n: [u64; 16], table: RegionTable) -> RegionTable {
     let outcome = match command {
-        30 => regions::place(table, natural(n, 0), rectangle_at(n, 1)),
+        30 => regions_calls::place(table, natural(n, 0), rectangle_at(n, 1)),
         33 => Outcome {
-            answer: pixels::setting(pixel_setting(n)),
+            answer: pixels_calls::setting(pixel_setting(n)),
             table: table,
         },
         _ => Outcome {
@@ -143,10 +143,10 @@ pub fn call(
     buffer: &mut [u8],
 ) -> Outcome {
     if command == 24 {
-        return regions::edit(table, natural(n, 0), box_at(n, 1), elements, buffer);
+        return regions_calls::edit(table, natural(n, 0), box_at(n, 1), elements, buffer);
     }
     if command == 28 {
-        return regions::read(table, natural(n, 0), box_at(n, 1), buffer, elements);
+        return regions_calls::read(table, natural(n, 0), box_at(n, 1), buffer, elements);
     }
     Outcome {
         answer: on_packed(command, n, elements, buffer),
@@ -217,14 +217,14 @@ pub fn print_value(line: u64, command: u32, n: [u64; 16]) {
             line,
             cube::position(cube_layout(n), natural(n, 7), natural(n, 8), natural(n, 9)),
         ),
-        35 => print_quantity(line, layout::extent(cube_layout(n))),
+        35 => print_quantity(line, layout_calls::extent(cube_layout(n))),
         36 => print_quantity(
             line,
-            pixels::position(pixel_setting(n), natural(n, 8), natural(n, 9)),
+            pixels_calls::position(pixel_setting(n), natural(n, 8), natural(n, 9)),
         ),
         37 => print_quantized(line, convert(n)),
         38 => print_quantized(line, Quantized::Value(camera::x_entry(natural(n, 0)))),
-        48 => print_owner(line, layout::whose(cube_layout(n), position(n, 7))),
+        48 => print_owner(line, layout_calls::whose(cube_layout(n), position(n, 7))),
         _ => print_quantized(line, Quantized::Value(camera::y_entry(natural(n, 0)))),
     }
     end_line();

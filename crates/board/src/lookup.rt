@@ -173,7 +173,7 @@ fn run_split(
 ) -> lut::LutOutcome
     requires { ⌜ split ≤ length (now entries) ⌝ }
 {
-    lut::run(
+    lut_calls::run(
         settings,
         &entries[..split],
         &entries[split..],

@@ -10,7 +10,7 @@ use sheet_io::Printed;
 // A sheet after a call for nothing.
 fn after_nothing(before: Printed) -> Printed {
     let sheet = before.sheet;
-    let fed = script::feed(sheet, b"");
+    let fed = script_calls::feed(sheet, b"");
     let after = fed.sheet;
     Printed {
         sheet: after,

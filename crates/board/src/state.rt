@@ -27,7 +27,7 @@ pub fn first_state() -> State {
         counts: [0; 3],
         spoilt: 0,
         sums: false,
-        table: regions::empty(crate::calls::cube_layout(zeros)),
+        table: regions_calls::empty(crate::calls::cube_layout(zeros)),
         x: zeros,
         y: zeros,
         bits: zeros,

@@ -34,7 +34,7 @@ fn whole(layout: CubeLayout) -> ElementBox
 fn judge(layout: CubeLayout, b: ElementBox, elements: &[i16], len: usize) -> Answer
     ensures { λ r. ⌜ r ≡ writeBoxAnswer layout b (now (elements .entry)) len ⌝ }
 {
-    let a = layout::admit(layout, b, elements.len(), len);
+    let a = layout_calls::admit(layout, b, elements.len(), len);
     let Answer::Accepted = a else {
         return a;
     };
@@ -62,7 +62,7 @@ pub fn unpack(layout: CubeLayout, buffer: &[u8], elements: &mut [i16]) -> Answer
     ensures left { λ r. ⌜ now (elements .exit) ≡ unpackElements layout (now (buffer .entry)) (now (elements .entry)) ⌝ }
 {
     let cube = whole(layout);
-    let a = layout::admit(layout, cube, elements.len(), buffer.len());
+    let a = layout_calls::admit(layout, cube, elements.len(), buffer.len());
     let Answer::Accepted = a else {
         return a;
     };
@@ -88,7 +88,7 @@ pub fn read_box(layout: CubeLayout, b: ElementBox, buffer: &[u8], elements: &mut
     ensures answered { λ r. ⌜ r ≡ readBoxAnswer layout b (length (now (elements .entry))) (length (now (buffer .entry))) ⌝ }
     ensures left { λ r. ⌜ now (elements .exit) ≡ readBoxElements layout b (now (buffer .entry)) (now (elements .entry)) ⌝ }
 {
-    let a = layout::admit(layout, b, elements.len(), buffer.len());
+    let a = layout_calls::admit(layout, b, elements.len(), buffer.len());
     let Answer::Accepted = a else {
         return a;
     };
@@ -108,7 +108,7 @@ pub fn position(layout: CubeLayout, channel: u32, row: u32, column: u32) -> Quan
         rows: 1,
         columns: 1,
     };
-    match layout::check_box(layout, one) {
+    match layout_calls::check_box(layout, one) {
         Answer::Refused(refusal, at) => Quantity::Refused(refusal, at),
         Answer::Accepted => Quantity::Is(runs::position_of(layout, channel, row, column)),
     }

@@ -14,7 +14,7 @@ pub fn begin(layout: CubeLayout, elements: &[i16], buffer: &mut [u8]) -> Outcome
     ensures { λ r. ⌜ stepOf (r .answer) (now (elements .entry)) (r .table) (now (buffer .exit)) ≡ beginning layout (now (elements .entry)) (now (buffer .entry)) ⌝ }
 {
     let answer = cube::pack(layout, elements, buffer);
-    let table = regions::empty(layout);
+    let table = regions_calls::empty(layout);
     Outcome {
         answer: answer,
         table: table,
@@ -25,7 +25,7 @@ pub fn begin(layout: CubeLayout, elements: &[i16], buffer: &mut [u8]) -> Outcome
 pub fn place(table: RegionTable, slot: u32, rectangle: Rectangle, buffer: &mut [u8]) -> Outcome
     ensures { λ r. ⌜ stepOf (r .answer) [] (r .table) (now (buffer .exit)) ≡ step (stateOf table (now (buffer .entry))) (Call.place slot rectangle) ⌝ }
 {
-    regions::place(table, slot, rectangle)
+    regions_calls::place(table, slot, rectangle)
 }
 
 // Writes a box of a region.
@@ -38,7 +38,7 @@ pub fn edit(
 ) -> Outcome
     ensures { λ r. ⌜ stepOf (r .answer) (now (elements .entry)) (r .table) (now (buffer .exit)) ≡ step (stateOf table (now (buffer .entry))) (Call.edit slot b (now (elements .entry))) ⌝ }
 {
-    regions::edit(table, slot, b, elements, buffer)
+    regions_calls::edit(table, slot, b, elements, buffer)
 }
 
 // Reads a box of a region.
@@ -51,5 +51,5 @@ pub fn read(
 ) -> Outcome
     ensures { λ r. ⌜ stepOf (r .answer) (now (elements .exit)) (r .table) (now (buffer .exit)) ≡ step (stateOf table (now (buffer .entry))) (Call.read slot b (now (elements .entry))) ⌝ }
 {
-    regions::read(table, slot, b, buffer, elements)
+    regions_calls::read(table, slot, b, buffer, elements)
 }

@@ -10,16 +10,16 @@ use crate::answers;
 use crate::words;
 use crate::words::LAYOUT_WORDS;
 
-// layout::check
+// layout_calls::check
 #[no_mangle]
 pub extern "C" fn olsketina_layout_check(layout: &[u32; LAYOUT_WORDS], fault: &mut usize) -> u32
     ensures { λ r. ⌜ Answered (inOrder (layoutChecks (layoutFrom (now (layout .entry))))) r (now (fault .exit)) ⌝ }
 {
-    let checked = layout::check(words::layout_at(layout, 0));
+    let checked = layout_calls::check(words::layout_at(layout, 0));
     answers::give(checked, fault)
 }
 
-// layout::extent
+// layout_calls::extent
 #[no_mangle]
 pub extern "C" fn olsketina_layout_extent(
     layout: &[u32; LAYOUT_WORDS],
@@ -28,7 +28,7 @@ pub extern "C" fn olsketina_layout_extent(
 ) -> u32
     ensures { λ r. ⌜ Valued (extentQuantity (layoutFrom (now (layout .entry)))) (now (value .entry)) r (now (value .exit)) (now (fault .exit)) ⌝ }
 {
-    let extent = layout::extent(words::layout_at(layout, 0));
+    let extent = layout_calls::extent(words::layout_at(layout, 0));
     answers::give_quantity(extent, value, fault)
 }
 

@@ -27,13 +27,13 @@ fn run(
     ensures counted { λ r. ⌜ now (counters .exit) ≡ runCounterWords s (now («x_entries» .entry)) (now («y_entries» .entry)) (now (samples .entry)) (length (now (outputs .entry))) (now (counters .entry)) ⌝ }
 {
     let before = lut_words::counters_of(counters);
-    let o = lut::run(s, x_entries, y_entries, samples, outputs, before);
+    let o = lut_calls::run(s, x_entries, y_entries, samples, outputs, before);
     let answer = o.answer;
     lut_words::leave_counters(counters, answer, o.counters);
     answers::give(answer, fault)
 }
 
-// lut::run, X linear
+// lut_calls::run, X linear
 #[no_mangle]
 pub extern "C" fn olsketina_lut_run_linear(
     x_settings: &[i32; SETTINGS_WORDS],
@@ -69,7 +69,7 @@ pub extern "C" fn olsketina_lut_run_linear(
     run(s, x_entries, y_entries, samples, outputs, counters, fault)
 }
 
-// lut::run, X exponential
+// lut_calls::run, X exponential
 #[no_mangle]
 pub extern "C" fn olsketina_lut_run_exponential(
     x_settings: &[i32; SETTINGS_WORDS],

@@ -7,16 +7,16 @@ use crate::answers;
 use crate::words;
 use crate::words::IMAGE_WORDS;
 
-// pixels::setting
+// pixels_calls::setting
 #[no_mangle]
 pub extern "C" fn olsketina_pixels_setting(image: &[u32; IMAGE_WORDS], fault: &mut usize) -> u32
     ensures { λ r. ⌜ Answered (settingAnswer (imageFrom (now (image .entry)))) r (now (fault .exit)) ⌝ }
 {
-    let checked = pixels::setting(words::image_of(image));
+    let checked = pixels_calls::setting(words::image_of(image));
     answers::give(checked, fault)
 }
 
-// pixels::position
+// pixels_calls::position
 #[no_mangle]
 pub extern "C" fn olsketina_pixels_position(
     image: &[u32; IMAGE_WORDS],
@@ -27,7 +27,7 @@ pub extern "C" fn olsketina_pixels_position(
 ) -> u32
     ensures { λ r. ⌜ Valued (positionQuantity (imageFrom (now (image .entry))) x y) (now (value .entry)) r (now (value .exit)) (now (fault .exit)) ⌝ }
 {
-    let position = pixels::position(words::image_of(image), x, y);
+    let position = pixels_calls::position(words::image_of(image), x, y);
     answers::give_quantity(position, value, fault)
 }
 

@@ -15,7 +15,7 @@ use crate::words::LAYOUT_WORDS;
 use crate::words::TABLE_WORDS;
 use regions::Rectangle;
 
-// regions::empty
+// regions_calls::empty
 #[no_mangle]
 pub extern "C" fn olsketina_regions_empty(
     layout: &[u32; LAYOUT_WORDS],
@@ -23,11 +23,11 @@ pub extern "C" fn olsketina_regions_empty(
 )
     ensures { λ _. ⌜ now (table .exit) ≡ withTable (emptyTable (layoutFrom (now (layout .entry)))) 0 (now (table .entry)) ⌝ }
 {
-    let t = regions::empty(words::layout_at(layout, 0));
+    let t = regions_calls::empty(words::layout_at(layout, 0));
     tables::write_table(table, 0, t);
 }
 
-// regions::place
+// regions_calls::place
 #[no_mangle]
 pub extern "C" fn olsketina_regions_place(
     table: &mut [u32; TABLE_WORDS],
@@ -48,14 +48,14 @@ pub extern "C" fn olsketina_regions_place(
         columns: columns,
         rows: rows,
     };
-    let o = regions::place(before, slot, rectangle);
+    let o = regions_calls::place(before, slot, rectangle);
     let answer = o.answer;
     let after = o.table;
     tables::leave_table(table, answer, after);
     answers::give(answer, fault)
 }
 
-// regions::edit
+// regions_calls::edit
 #[no_mangle]
 pub extern "C" fn olsketina_regions_edit(
     table: &[u32; TABLE_WORDS],
@@ -69,12 +69,12 @@ pub extern "C" fn olsketina_regions_edit(
     ensures left { λ r. ⌜ now (buffer .exit) ≡ editBuffer (tableAt (now (table .entry)) 0) slot (boxFrom (now (b .entry))) (now (elements .entry)) (now (buffer .entry)) ⌝ }
 {
     let t = tables::table_at(table, 0);
-    let o = regions::edit(t, slot, words::box_of(b), elements, buffer);
+    let o = regions_calls::edit(t, slot, words::box_of(b), elements, buffer);
     let answer = o.answer;
     answers::give(answer, fault)
 }
 
-// regions::read
+// regions_calls::read
 #[no_mangle]
 pub extern "C" fn olsketina_regions_read(
     table: &[u32; TABLE_WORDS],
@@ -88,12 +88,12 @@ pub extern "C" fn olsketina_regions_read(
     ensures left { λ r. ⌜ now (elements .exit) ≡ readElements (tableAt (now (table .entry)) 0) slot (boxFrom (now (b .entry))) (now (buffer .entry)) (now (elements .entry)) ⌝ }
 {
     let t = tables::table_at(table, 0);
-    let o = regions::read(t, slot, words::box_of(b), buffer, elements);
+    let o = regions_calls::read(t, slot, words::box_of(b), buffer, elements);
     let answer = o.answer;
     answers::give(answer, fault)
 }
 
-// regions::position
+// regions_calls::position
 #[no_mangle]
 pub extern "C" fn olsketina_regions_position(
     table: &[u32; TABLE_WORDS],
@@ -107,6 +107,6 @@ pub extern "C" fn olsketina_regions_position(
     ensures { λ r. ⌜ Valued (regionPosition (tableAt (now (table .entry)) 0) slot channel row column) (now (value .entry)) r (now (value .exit)) (now (fault .exit)) ⌝ }
 {
     let t = tables::table_at(table, 0);
-    let n = regions::position(t, slot, channel, row, column);
+    let n = regions_calls::position(t, slot, channel, row, column);
     answers::give_quantity(n, value, fault)
 }

@@ -12,7 +12,7 @@ use crate::words::TEXT_BYTES;
 use lines::Line;
 use script::Fed;
 
-// script::begin
+// script_calls::begin
 #[no_mangle]
 pub extern "C" fn olsketina_script_begin(
     state: &mut [u32; STATE_WORDS],
@@ -21,7 +21,7 @@ pub extern "C" fn olsketina_script_begin(
     ensures words { λ _. ⌜ now (state .exit) ≡ withSheet startSheet (now (state .entry)) ⌝ }
     ensures line { λ _. ⌜ now (text .exit) ≡ startSheet .lines .line .bytes ⌝ }
 {
-    let sheet = script::begin();
+    let sheet = script_calls::begin();
     let lines = sheet.lines;
     let line = lines.line;
     let empty = line.bytes;
@@ -50,7 +50,7 @@ fn write_fed(
     sheet_words::write_sheet(state, sheet);
 }
 
-// script::feed
+// script_calls::feed
 #[no_mangle]
 pub extern "C" fn olsketina_script_feed(
     state: &mut [u32; STATE_WORDS],
@@ -64,12 +64,12 @@ pub extern "C" fn olsketina_script_feed(
     ensures ended { λ r. ⌜ now (row .exit) ≡ rowWords (fed (sheetFrom (now (state .entry)) (now (text .entry))) (now (part .entry)) .given) ⌝ }
 {
     let before = sheet_words::sheet_of(state, text);
-    let f = script::feed(before, part);
+    let f = script_calls::feed(before, part);
     write_fed(f, state, text, row);
     f.read
 }
 
-// script::finish
+// script_calls::finish
 #[no_mangle]
 pub extern "C" fn olsketina_script_finish(
     state: &mut [u32; STATE_WORDS],
@@ -81,7 +81,7 @@ pub extern "C" fn olsketina_script_finish(
     ensures ended { λ _. ⌜ now (row .exit) ≡ rowWords (finished (sheetFrom (now (state .entry)) (now (text .entry))) .given) ⌝ }
 {
     let before = sheet_words::sheet_of(state, text);
-    let f = script::finish(before);
+    let f = script_calls::finish(before);
     write_fed(f, state, text, row);
 }
 
@@ -95,17 +95,17 @@ fn write_text(line: Line, text: &mut [u8; TEXT_BYTES]) -> u32
     line.length
 }
 
-// script::header_text
+// script_calls::header_text
 #[no_mangle]
 pub extern "C" fn olsketina_script_header_text(text: &mut [u8; TEXT_BYTES]) -> u32
     ensures length { λ r. ⌜ r ≡ written header .length ⌝ }
     ensures bytes { λ r. ⌜ now (text .exit) ≡ written header .bytes ⌝ }
 {
-    let line = script::header_text();
+    let line = script_calls::header_text();
     write_text(line, text)
 }
 
-// script::fields_text, of a value that is not negative
+// script_calls::fields_text, of a value that is not negative
 #[no_mangle]
 pub extern "C" fn olsketina_script_row_text(
     line: u64,
@@ -116,6 +116,6 @@ pub extern "C" fn olsketina_script_row_text(
     ensures length { λ r. ⌜ r ≡ written (fieldsText line answer (pos value)) .length ⌝ }
     ensures bytes { λ r. ⌜ now (text .exit) ≡ written (fieldsText line answer (pos value)) .bytes ⌝ }
 {
-    let fields = script::fields_text(line, answer, false, value);
+    let fields = script_calls::fields_text(line, answer, false, value);
     write_text(fields, text)
 }

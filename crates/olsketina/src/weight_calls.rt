@@ -8,7 +8,7 @@ use crate::answers;
 use crate::words;
 use crate::words::WEIGHTS_WORDS;
 
-// weights::pack
+// weights_calls::pack
 #[no_mangle]
 pub extern "C" fn olsketina_weights_pack(
     weights: &[u32; WEIGHTS_WORDS],
@@ -19,11 +19,11 @@ pub extern "C" fn olsketina_weights_pack(
     ensures answered { λ r. ⌜ Answered (packAnswer (weightsFrom (now (weights .entry))) (now (elements .entry)) (length (now (buffer .entry)))) r (now (fault .exit)) ⌝ }
     ensures left { λ r. ⌜ now (buffer .exit) ≡ packBuffer (weightsFrom (now (weights .entry))) (now (elements .entry)) (now (buffer .entry)) ⌝ }
 {
-    let packed = weights::pack(words::weights_of(weights), elements, buffer);
+    let packed = weights_calls::pack(words::weights_of(weights), elements, buffer);
     answers::give(packed, fault)
 }
 
-// weights::unpack
+// weights_calls::unpack
 #[no_mangle]
 pub extern "C" fn olsketina_weights_unpack(
     weights: &[u32; WEIGHTS_WORDS],
@@ -34,11 +34,11 @@ pub extern "C" fn olsketina_weights_unpack(
     ensures answered { λ r. ⌜ Answered (unpackAnswer (weightsFrom (now (weights .entry))) (length (now (elements .entry))) (length (now (buffer .entry)))) r (now (fault .exit)) ⌝ }
     ensures left { λ r. ⌜ now (elements .exit) ≡ unpackElements (weightsFrom (now (weights .entry))) (now (buffer .entry)) (now (elements .entry)) ⌝ }
 {
-    let unpacked = weights::unpack(words::weights_of(weights), buffer, elements);
+    let unpacked = weights_calls::unpack(words::weights_of(weights), buffer, elements);
     answers::give(unpacked, fault)
 }
 
-// weights::position
+// weights_calls::position
 #[no_mangle]
 pub extern "C" fn olsketina_weights_position(
     weights: &[u32; WEIGHTS_WORDS],
@@ -51,11 +51,11 @@ pub extern "C" fn olsketina_weights_position(
 ) -> u32
     ensures { λ r. ⌜ Valued (positionQuantity (weightsFrom (now (weights .entry))) kernel channel row column) (now (value .entry)) r (now (value .exit)) (now (fault .exit)) ⌝ }
 {
-    let position = weights::position(words::weights_of(weights), kernel, channel, row, column);
+    let position = weights_calls::position(words::weights_of(weights), kernel, channel, row, column);
     answers::give_quantity(position, value, fault)
 }
 
-// weights::count
+// weights_calls::count
 #[no_mangle]
 pub extern "C" fn olsketina_weights_count(
     weights: &[u32; WEIGHTS_WORDS],
@@ -64,11 +64,11 @@ pub extern "C" fn olsketina_weights_count(
 ) -> u32
     ensures { λ r. ⌜ Valued (countQuantity (weightsFrom (now (weights .entry)))) (now (value .entry)) r (now (value .exit)) (now (fault .exit)) ⌝ }
 {
-    let count = weights::count(words::weights_of(weights));
+    let count = weights_calls::count(words::weights_of(weights));
     answers::give_quantity(count, value, fault)
 }
 
-// weights::extent
+// weights_calls::extent
 #[no_mangle]
 pub extern "C" fn olsketina_weights_extent(
     weights: &[u32; WEIGHTS_WORDS],
@@ -77,6 +77,6 @@ pub extern "C" fn olsketina_weights_extent(
 ) -> u32
     ensures { λ r. ⌜ Valued (extentQuantity (weightsFrom (now (weights .entry)))) (now (value .entry)) r (now (value .exit)) (now (fault .exit)) ⌝ }
 {
-    let extent = weights::extent(words::weights_of(weights));
+    let extent = weights_calls::extent(words::weights_of(weights));
     answers::give_quantity(extent, value, fault)
 }

@@ -54,7 +54,7 @@ fn is_named(word: &[u8], ns: Numbers, name: &[u8], count: usize) -> bool
     if ns.count != count {
         return false;
     }
-    lines::same(word, name)
+    lines_calls::same(word, name)
 }
 
 // The record of a word and the numbers behind it.
@@ -77,8 +77,8 @@ fn by_word(word: &[u8], ns: Numbers) -> Record
 fn by_fields(text: &[u8]) -> Record
     ensures { λ r. ⌜ r ≡ byFields (fieldsOf (now (text .entry))) ⌝ }
 {
-    let end = lines::part_length(text, 9);
-    let ns = lines::read_numbers(&text[end..]);
+    let end = lines_calls::part_length(text, 9);
+    let ns = lines_calls::read_numbers(&text[end..]);
     by_word(&text[..end], ns)
 }
 
@@ -86,7 +86,7 @@ fn by_fields(text: &[u8]) -> Record
 pub fn of_line(line: Line) -> Record
     ensures { λ r. ⌜ r ≡ lineRecord line ⌝ }
 {
-    if !lines::whole(line) {
+    if !lines_calls::whole(line) {
         return Record::Unreadable;
     }
     let n = line.length as usize;
@@ -98,6 +98,6 @@ pub fn of_line(line: Line) -> Record
 pub fn read(line: &[u8]) -> Record
     ensures { λ r. ⌜ r ≡ recordOf (now (line .entry)) ⌝ }
 {
-    let empty = lines::empty();
-    of_line(lines::add(empty, line))
+    let empty = lines_calls::empty();
+    of_line(lines_calls::add(empty, line))
 }

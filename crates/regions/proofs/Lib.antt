@@ -5,13 +5,9 @@
 --     CallLaws      what an accepted read, edit or placing tells
 --     ReadLaws      what a read depends on
 --     Claims        overlapping, in the paper's words
---     StepLaws      slots and boxes as the code reads them, and the calls in terms of what they call
---     MeetLaws      the code's overlap test
 pub mod Computed
 pub mod RuleLaws
 pub mod OverlapLaws
 pub mod CallLaws
 pub mod ReadLaws
 pub mod Claims
-pub mod StepLaws
-pub mod MeetLaws

@@ -3,4 +3,3 @@ pub mod Rules
 pub mod Calls
 pub mod Overlaps
 pub mod Reads
-pub mod Steps

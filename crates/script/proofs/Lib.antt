@@ -1,5 +1,4 @@
 -- The theorem about the whole input, and the laws behind it.
---     AnswerLaws   a record's answer, value and desk in terms of what the code calls
 --     CallLaws     one call, and the calls for a part
 --     CutLaws      parts fed one after another give the rows of the lines
 --     RowLaws      as many rows as lines, numbered; what a refused record leaves
@@ -7,7 +6,6 @@
 --     SheetLaws    parts, rows and texts of a whole sheet
 --     Claims       the statements
 --     Computed     the paper's session, computed
-pub mod AnswerLaws
 pub mod CallLaws
 pub mod CutLaws
 pub mod RowLaws

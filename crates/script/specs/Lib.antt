@@ -2,4 +2,3 @@ pub mod Rows
 pub mod Sheets
 pub mod Feed
 pub mod Output
-pub mod Steps

@@ -71,9 +71,9 @@ pub fn feed_all(shown: bool, before: Printed, part: &[u8]) -> Printed
     let mut sum = before.sum;
     let mut from = 0;
     while from < part.len() {
-        let fed = script::feed(state, &part[from..]);
+        let fed = script_calls::feed(state, &part[from..]);
         let given = fed.given;
-        sum = write(shown, sum, script::given_text(given));
+        sum = write(shown, sum, script_calls::given_text(given));
         state = fed.sheet;
         from += fed.read;
     }
@@ -87,8 +87,8 @@ pub fn feed_all(shown: bool, before: Printed, part: &[u8]) -> Printed
 pub fn begin(shown: bool) -> Printed
     ensures { λ r. ⌜ r ≡ startPrinted ⌝ }
 {
-    let sheet = script::begin();
-    let header = write(shown, 0, script::header_text());
+    let sheet = script_calls::begin();
+    let header = write(shown, 0, script_calls::header_text());
     Printed {
         sheet: sheet,
         sum: header,
@@ -118,9 +118,9 @@ pub fn finish(shown: bool, before: Printed) -> Printed
     ensures { λ r. ⌜ r ≡ endPrinted before ⌝ }
 {
     let sheet = before.sheet;
-    let last = script::finish(sheet);
+    let last = script_calls::finish(sheet);
     let given = last.given;
-    let all = write(shown, before.sum, script::given_text(given));
+    let all = write(shown, before.sum, script_calls::given_text(given));
     let end = last.sheet;
     Printed {
         sheet: end,

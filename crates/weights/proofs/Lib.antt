@@ -13,10 +13,6 @@
 --     PackLaws        what an accepted packing comes to
 --     Claims          the claims about packed weights, of the calls
 --     BoundLaws       counts within 64 bits
---     RunLaws         runs, and the run behind a run
---     CellLaws        what the columns of a run hold
---     BlockLaws       ..as the code computes them
---     WalkLaws        the walk over all runs, toward a goal list
 --     WriteLaws, ReadLaws     what writing and reading all runs leave
 pub mod Computed
 pub mod Valid
@@ -32,9 +28,3 @@ pub mod RoundTrip
 pub mod PackLaws
 pub mod Claims
 pub mod BoundLaws
-pub mod RunLaws
-pub mod CellLaws
-pub mod BlockLaws
-pub mod WalkLaws
-pub mod WriteLaws
-pub mod ReadLaws

@@ -4,4 +4,3 @@ pub mod Rules
 pub mod Contents
 pub mod Calls
 pub mod StepsPixels
-pub mod Steps

@@ -1,0 +1,3 @@
+pub mod StepsRows
+pub mod StepsPoints
+pub mod StepsLoop

@@ -1,0 +1,4 @@
+--     StepLaws      slots and boxes as the code reads them, and the calls in terms of what they call
+--     MeetLaws      the code's overlap test
+pub mod StepLaws
+pub mod MeetLaws

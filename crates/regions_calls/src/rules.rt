@@ -1,0 +1,134 @@
+// The checks of a slot, a placing and a box in a region, each in its order, and the box of the cube that a box of a region is.
+ghost use mathlib.Core.Path.{_≡_};
+ghost use Prim.Native.Nat.{_<_};
+ghost use Rattle.refusal.specs.declared.Answer.the-variants.{Accepted};
+ghost use Rattle.refusal.specs.Checks.{inOrder};
+ghost use Rattle.layout.specs.Rules.{layoutChecks};
+ghost use Rattle.regions.specs.Slots.{slotOf, slotsOf, rectangleInside};
+ghost use Rattle.regions.specs.Rules.{slotAt, boxInRectangle, accessOf, slotChecks};
+ghost use Rattle.regions_calls.specs.Steps.{boxIn, foundBox};
+ghost use Rattle.regions.specs.Calls.{placeAnswer};
+use regions::Rectangle;
+use regions::Region;
+use regions::RegionTable;
+use crate::overlap;
+use layout::CubeLayout;
+use layout::ElementBox;
+use refusal::Answer;
+use refusal::Refusal;
+
+// A box of the cube, or refused with the index at fault.
+pub(crate) enum FoundBox {
+    At(ElementBox),
+    Refused(Refusal, usize),
+}
+
+// What a slot holds.
+fn region_at(table: RegionTable, slot: u32) -> Region
+    requires { ⌜ slot < 16 ⌝ }
+    ensures { λ r. ⌜ slotOf r ≡ slotAt (slotsOf table) slot ⌝ }
+{
+    let i = slot as usize;
+    table.slots[i]
+}
+
+// The rectangle has positions, and all of them are in the cube.
+fn rectangle_inside(layout: CubeLayout, g: Rectangle) -> bool
+    ensures { λ r. ⌜ r ≡ rectangleInside layout g ⌝ }
+{
+    if !layout_calls::span_inside(g.column, g.columns, layout.width) {
+        return false;
+    }
+    layout_calls::span_inside(g.row, g.rows, layout.height)
+}
+
+// The box has elements, all of them in the rectangle.
+fn box_inside(layout: CubeLayout, g: Rectangle, b: ElementBox) -> bool
+    ensures { λ r. ⌜ r ≡ boxInRectangle layout g b ⌝ }
+{
+    if !layout_calls::span_inside(b.channel, b.channels, layout.channels) {
+        return false;
+    }
+    if !layout_calls::span_inside(b.row, b.rows, g.rows) {
+        return false;
+    }
+    layout_calls::span_inside(b.column, b.columns, g.columns)
+}
+
+// Checks 1 to 4, 8, 9, 10 of a placing.
+pub(crate) fn check_place(table: RegionTable, slot: u32, g: Rectangle) -> Answer
+    ensures { λ r. ⌜ r ≡ placeAnswer table slot g ⌝ }
+{
+    let a = layout_calls::check(table.layout);
+    let Answer::Accepted = a else {
+        return a;
+    };
+    if 16 <= slot {
+        return Answer::Refused(Refusal::Slot, 0);
+    }
+    let old = region_at(table, slot);
+    if old.placed {
+        return Answer::Refused(Refusal::Slot, 0);
+    }
+    if !rectangle_inside(table.layout, g) {
+        return Answer::Refused(Refusal::Bounds, 0);
+    }
+    let slots = table.slots;
+    if overlap::any_meets(slots, g) {
+        return Answer::Refused(Refusal::Overlap, 0);
+    }
+    Answer::Accepted
+}
+
+// Checks 1 to 4, 8 of a call through a region.
+fn check_slot(table: RegionTable, slot: u32) -> Answer
+    ensures { λ r. ⌜ r ≡ inOrder (slotChecks (accessOf table slot)) ⌝ }
+{
+    let a = layout_calls::check(table.layout);
+    let Answer::Accepted = a else {
+        return a;
+    };
+    if 16 <= slot {
+        return Answer::Refused(Refusal::Slot, 0);
+    }
+    let g = region_at(table, slot);
+    if !g.placed {
+        return Answer::Refused(Refusal::Slot, 0);
+    }
+    Answer::Accepted
+}
+
+// The box of the cube that a box of a rectangle is. Check 9.
+fn box_in(layout: CubeLayout, g: Rectangle, b: ElementBox) -> FoundBox
+    requires { ⌜ inOrder (layoutChecks layout) ≡ Accepted ⌝ }
+    ensures { λ r. ⌜ r ≡ boxIn layout g b ⌝ }
+{
+    if !rectangle_inside(layout, g) {
+        return FoundBox::Refused(Refusal::Bounds, 0);
+    }
+    if !box_inside(layout, g, b) {
+        return FoundBox::Refused(Refusal::Bounds, 0);
+    }
+    let moved = ElementBox {
+        channel: b.channel,
+        row: g.row + b.row,
+        column: g.column + b.column,
+        channels: b.channels,
+        rows: b.rows,
+        columns: b.columns,
+    };
+    FoundBox::At(moved)
+}
+
+// The box of the cube that a box of a region is. Checks 1 to 4, 8, 9.
+pub(crate) fn find_box(table: RegionTable, slot: u32, b: ElementBox) -> FoundBox
+    ensures { λ r. ⌜ r ≡ foundBox (accessOf table slot) b ⌝ }
+{
+    match check_slot(table, slot) {
+        Answer::Refused(refusal, at) => FoundBox::Refused(refusal, at),
+        Answer::Accepted => {
+            let region = region_at(table, slot);
+            box_in(table.layout, region.rectangle, b)
+        }
+    }
+}

@@ -1,0 +1,2 @@
+--     AnswerLaws   a record's answer, value and desk in terms of what the code calls
+pub mod AnswerLaws
