@@ -18,10 +18,10 @@ use mir.Syntax.{w32}
 use mir.Val.{SFits, toZ, ofZ}
 use mir.Facts.{toZ-ofZ, toZ-pos}
 use borrow.Author.Tests.{le-leb}
+use Rattle.general.proofs.TestLaws.{and-left, and-right}
+use Rattle.general.proofs.UpDown.{ud-inj, take-ud, leZ-true, ltZ-true, ltZ-false, le-leZ, lt-leZ}
 use Rattle.refusal.specs.declared.Refusal.the-variants.{YSelect}
 use Rattle.refusal.proofs.CheckLaws.{inOrder-nil, inOrder-next, inOrder-stop, result-given, result-refused}
-use Rattle.refusal.proofs.TestLaws.{and-left, and-right}
-use Rattle.integers.proofs.UpDown.{ud-inj, take-ud, leZ-true, ltZ-true, ltZ-false, le-leZ, lt-leZ}
 use Rattle.lut.specs.declared.Table.{Table}
 use Rattle.lut.specs.Numbers.{between, scaled}
 use Rattle.camera.specs.declared.Choice.{Choice}

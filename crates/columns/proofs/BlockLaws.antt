@@ -3,22 +3,20 @@
 --     Fits-rows, Fits-columns          where the rows and the columns end
 --     fitting-same, fitting-false      the test by another
 --     block-written, block-read        a block that fits is columns
---     block-written-length             the buffer keeps its length
 --     block-kept, block-unread         one that does not writes, reads nothing
 use Prim.Native.Nat.{ℕ, zero, suc, _+_, _-_, _*_, _≤_}
 use native.Mathlib.Omega.{arith}
 use native.Mathlib.Nat.{suc-mul, mul-comm, mul-le-mul, not-suc-le-zero}
 use mathlib.Core.Path.{_≡_, refl, sym, ap, _∙_}
-use mathlib.Core.Bool.{Bool, true, false, cond, _&&_}
+use mathlib.Core.Bool.{Bool, true, false, _&&_}
 use mathlib.Core.List.{List}
 use lib.Dec.{leb}
 use lib.IntN.{ℤ}
 use lib.ListN.{length}
 use borrow.Author.Tests.{leb-true, le-leb}
-use Rattle.refusal.proofs.TestLaws.{and-true}
+use Rattle.general.proofs.TestLaws.{and-true}
 use Rattle.columns.specs.declared.ColumnBlock.{ColumnBlock}
 use Rattle.columns.specs.Columns.{listed, rowsWritten, rowsRead}
-use Rattle.columns.proofs.StripLaws.{written-length}
 use Rattle.columns.specs.Blocks.{fitting, blockFits, blockWritten, blockRead}
 
 -- two tests that hold together are one
@@ -100,14 +98,6 @@ module _ (b : ColumnBlock) where
   pub block-kept : (xs : List ℤ) (before : List ℕ) → blockFits b (length xs) (length before) ≡ false → blockWritten b xs before ≡ before
   unfolding blockWritten
   block-kept xs before e = rw e
-
-  pub block-written-length : (xs : List ℤ) (before : List ℕ) → length (blockWritten b xs before) ≡ length before
-  unfolding blockWritten
-  block-written-length xs before = go (blockFits b (length xs) (length before))
-    where
-      go : (t : Bool) → length (cond t (rowsWritten (b .size) (listed xs) (b .from) (b .plane) (b .rows) (b .count) (b .at) (b .stride) before) before) ≡ length before
-      go true = written-length (b .size) (listed xs) (b .from) (b .plane) (b .rows) (b .at) (b .stride) (b .count) before
-      go false = refl
 
   pub block-read : (buf : List ℕ) (before : List ℤ) → BlockFits b (length before) (length buf) → b .count ≤ b .plane
       → blockRead b buf before ≡ rowsRead (b .size) buf (b .at) (b .stride) (b .rows) (b .count) (b .from) (b .plane) before

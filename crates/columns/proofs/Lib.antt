@@ -7,7 +7,7 @@
 --     TowardLaws   columns as a step toward a goal list
 --     ClearLaws    bytes cleared
 --     BlockLaws    blocks that fit, as columns
---     Examples     two worked examples
+--     Computed     two blocks, computed
 pub mod ColumnLaws
 pub mod UnitLaws
 pub mod ReadLaws
@@ -16,4 +16,4 @@ pub mod StripLaws
 pub mod TowardLaws
 pub mod ClearLaws
 pub mod BlockLaws
-pub mod Examples
+pub mod Computed

@@ -10,9 +10,9 @@ use mathlib.Core.Path.{_≡_, sym, ap, subst, _∙_}
 use mathlib.Core.Logic.{inl, inr, ⊎-elim}
 use mathlib.Core.List.{List}
 use lib.ListN.{length, getD, List·getD-eq-default}
-use Rattle.elements.proofs.Toward.{Toward}
 use lib.Arith.{digits-lt}
 use lib.IntN.{ℤ, pos}
+use Rattle.general.proofs.Toward.{Toward}
 use Rattle.elements.specs.Bytes.{byteOf, elementAt}
 use Rattle.columns.specs.declared.ColumnBlock.{ColumnBlock}
 use Rattle.columns.specs.Columns.{columns, columnByte, listed, rowsWritten, columnElement, rowsRead}

@@ -10,8 +10,8 @@ use mathlib.Core.Logic.{⊎-elim}
 use mathlib.Core.List.{List}
 use lib.ListN.{length, getD}
 use lib.IntN.{ℤ, pos}
+use Rattle.general.proofs.Toward.{Toward, toward-refl, reached-kept}
 use Rattle.elements.specs.Bytes.{byteOf}
-use Rattle.elements.proofs.Toward.{Toward, toward-refl, reached-kept}
 use Rattle.layout.specs.declared.CubeLayout.{CubeLayout}
 use Rattle.layout.specs.declared.ElementBox.{ElementBox}
 use Rattle.layout.specs.Geometry.{sizeOf, elementPosition, cubeExtent}

@@ -11,9 +11,9 @@ use mathlib.Core.List.{List}
 use lib.ListN.{length, getD}
 use lib.Seq.{ext-getD}
 use lib.IntN.{ℤ, pos}
+use Rattle.general.proofs.Toward.{Toward, reached-kept}
 use Rattle.elements.specs.Bytes.{elementAt}
 use Rattle.elements.proofs.TabulateLaws.{length-tabulate, getD-tabulate}
-use Rattle.elements.proofs.Toward.{Toward, reached-kept}
 use Rattle.columns.specs.Blocks.{blockRead}
 use Rattle.columns.proofs.BlockLaws.{BlockFits}
 use Rattle.columns.proofs.TowardLaws.{block-read-toward, block-read-reached}

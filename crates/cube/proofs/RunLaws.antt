@@ -3,7 +3,7 @@
 --     run-index       its index among the caller's elements
 --     run-position    its position
 --     run-index-lt, run-index-end    a run's indices are the box's
---     run-cube, run-room, run-end    a run's elements are in the cube, their bytes in the buffer
+--     run-cube, run-room             a run's elements are in the cube, their bytes in the buffer
 --     position-lt, channel-bytes     bounds of positions
 --     run-index-more, run-position-more     where the k-th channel after n begins
 use Prim.Native.Nat.{ℕ, _+_, _-_, _*_, _/_, _%_, _^_, _≤_, _<_}
@@ -58,12 +58,6 @@ module _ (q : CubeLayout) (ok : Valid q) (box : ElementBox) (inside : BoxValid q
         let cube = run-cube n r i hn hr hi in
         let end = element-within q ok (box .channel + n) (box .row + r) (box .column + i) (cube .channel-lt) (cube .row-lt) (cube .column-lt) in
         omega (arith, room, end, run-position q box n r i)
-
-    pub run-end : (n r : ℕ) → n < box .channels → r < box .rows → runPosition q box n r + 32 * box .columns + sizeOf q ≤ len + 32
-    run-end n r hn hr =
-        let some = inside .columns .some in
-        let last : box .columns - 1 < box .columns = omega arith in
-        omega (arith, run-room n r (box .columns - 1) hn hr last, some)
 
 -- an element's position, within 64 bits
 pub position-lt : (q : CubeLayout) → Valid q → q .line < 2 ^ 32 → q .surface < 2 ^ 32 → q .start < 2 ^ 32

@@ -13,10 +13,10 @@ use lib.Dec.{eqb}
 use lib.ListN.{length, getD}
 use lib.IntN.{ℤ, pos}
 use borrow.Author.Tests.{eqb-true, eq-eqb}
+use Rattle.general.proofs.Toward.{Toward}
+use Rattle.general.proofs.TestLaws.{and-true}
 use Rattle.elements.specs.Bytes.{byteOf}
 use Rattle.elements.proofs.ByteLaws.{elementBytes-pos}
-use Rattle.elements.proofs.Toward.{Toward}
-use Rattle.refusal.proofs.TestLaws.{and-true}
 use Rattle.columns.specs.Blocks.{blockWritten, cleared}
 use Rattle.columns.proofs.BlockLaws.{BlockFits}
 use Rattle.columns.proofs.TowardLaws.{block-written-toward, block-written-reached}

@@ -24,7 +24,7 @@ pub(crate) fn all(layout: CubeLayout, b: ElementBox, buffer: &[u8], elements: &m
         let mut r: u32 = 0;
         while r < rows {
             let block = runs::row(layout, b, n, m, r);
-            columns::read(block, buffer, elements);
+            columns_calls::read(block, buffer, elements);
             r += 1;
         }
         n = m;

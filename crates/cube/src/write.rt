@@ -29,9 +29,9 @@ pub(crate) fn all(layout: CubeLayout, b: ElementBox, pad: bool, elements: &[i16]
         while r < rows {
             let block = runs::row(layout, b, n, m, r);
             if pad & (m == channels) {
-                columns::clear(block.at, 32 * block.count as usize, buffer);
+                columns_calls::clear(block.at, 32 * block.count as usize, buffer);
             }
-            columns::write(block, elements, buffer);
+            columns_calls::write(block, elements, buffer);
             r += 1;
         }
         n = m;

@@ -6,12 +6,12 @@
 --     elementAt-ext                                             equal bytes are equal elements
 --     elementAt-byteOf                                          the round trip: an element's bytes are that element
 --     elementAt-one, elementAt-two                              the element of one byte, of two
---     elementAt-within, elementAt-fits                          it is a number of that many bytes, so a 16-bit one
+--     elementAt-within                                          it is a number of that many bytes
 use Prim.Native.Nat.{ℕ, zero, suc, _+_, _-_, _*_, _/_, _%_, _^_, _<_, _≤_}
 use mathlib.Core.Path.{_≡_, refl, ap, _∙_}
-use mathlib.Core.Logic.{_⊎_, inl, inr, ⊎-elim}
+use mathlib.Core.Logic.{_⊎_, inl, inr}
 use mathlib.Core.List.{List}
-use native.Mathlib.Nat.{mod-eq-of-lt, pow-suc, lt-of-lt-of-le}
+use native.Mathlib.Nat.{mod-eq-of-lt, pow-suc}
 use native.Mathlib.Decide.{decLt}
 use native.Mathlib.Omega.{arith}
 use lib.IntN.{ℤ, pos, negsuc}
@@ -86,12 +86,6 @@ pub elementAt-within : (e : ℕ) (l : List ℕ) (at : ℕ)
 unfolding elementAt
 elementAt-within zero l at p h = absurd (omega arith)
 elementAt-within (suc e) l at p h = signed-within e (wordAt (suc e) l at) (wordAt-lt (suc e) l at h)
-
-pub elementAt-fits : (e : ℕ) (l : List ℕ) (at : ℕ)
-    → (e ≡ 1) ⊎ (e ≡ 2) → ((b : ℕ) → b < e → getD l (at + b) 0 < 256) → mag (elementAt e l at) < 32768
-elementAt-fits e l at c h =
-    lt-of-lt-of-le (elementAt-within e l at (⊎-elim (λ k. omega arith) (λ k. omega arith) c) h)
-    (⊎-elim (λ k. rw k (omega arith)) (λ k. rw k (omega arith)) c)
 
 pub elementBytes-int8 : (p : ℕ) → p ≡ 0 → elementBytes p ≡ 1
 unfolding elementBytes

@@ -2,18 +2,18 @@
 --     Computed    bytes and values, computed
 --     ListLaws    a list made anew by position: its length and its entries
 --     TabulateLaws   a list given by position: its length and its entries
---     Toward      lists that come nearer to a goal list, store by store
 --     ByteLaws    an element's size, its bytes, and the element that bytes are; the round trip
 --     ValueLaws   which elements a precision takes, and what a list of such checks answers
 --     WordLaws    the unsigned number that bytes are
 --     SignLaws    signed numbers as the code computes them: the bits of a 16-bit number, and back
+--     Claims      the index at fault of a refused list
 --     StepLaws    the code's tests of an element, and a pass over the first elements
 pub mod Computed
 pub mod ListLaws
 pub mod TabulateLaws
-pub mod Toward
 pub mod ByteLaws
 pub mod ValueLaws
 pub mod WordLaws
 pub mod SignLaws
 pub mod StepLaws
+pub mod Claims

@@ -22,7 +22,7 @@ use borrow.Author.Tests.{ltb-true, ltb-false, lt-ltb, le-ltb, le-leb, lt-leb}
 use mir.Syntax.{w16}
 use mir.Val.{toZ, ofZ}
 use mir.Facts.{toZ-ofZ}
-use Rattle.refusal.proofs.TestLaws.{and-true}
+use Rattle.general.proofs.TestLaws.{and-true}
 use Rattle.elements.specs.Bytes.{byteOf}
 use Rattle.elements.specs.Values.{valueValid}
 use Rattle.elements.specs.Steps.{allValid}

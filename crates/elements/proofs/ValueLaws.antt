@@ -16,12 +16,12 @@ use lib.IntN.{ℤ, pos, negsuc}
 use lib.ListN.{length, getD}
 use lib.Signed.{mag}
 use borrow.Author.Tests.{leb-true, lt-ltb, le-ltb}
+use Rattle.general.proofs.TestLaws.{and-left}
 use Rattle.refusal.specs.declared.Refusal.{Refusal}
 use Rattle.refusal.specs.declared.Refusal.the-variants.{Precision, Int8Range}
 use Rattle.refusal.specs.declared.Answer.{Answer}
 use Rattle.refusal.specs.declared.Answer.the-variants.{Accepted, Refused}
 use Rattle.refusal.specs.Checks.{inOrder}
-use Rattle.refusal.proofs.TestLaws.{and-left}
 use Rattle.refusal.proofs.CheckLaws.{inOrder-nil, inOrder-next, inOrder-stop, inOrder-held, inOrder-rest}
 use Rattle.elements.specs.Bytes.{elementBytes}
 use Rattle.elements.specs.Values.{valueValid, valueCheck, valueChecksFrom, valueChecks, precisionChecks}

@@ -14,9 +14,9 @@ use lib.ListN.{length, getD}
 use lib.IntN.{ℤ, pos, negsuc}
 use lib.Signed.{mag}
 use borrow.Author.Tests.{le-leb}
+use Rattle.general.proofs.TestLaws.{and-both}
 use Rattle.refusal.specs.declared.Answer.the-variants.{Accepted}
 use Rattle.refusal.specs.Checks.{inOrder}
-use Rattle.refusal.proofs.TestLaws.{and-both}
 use Rattle.refusal.proofs.CheckLaws.{inOrder-front, inOrder-passed, leaves-done}
 use Rattle.elements.specs.Bytes.{elementBytes}
 use Rattle.elements.specs.Values.{valueValid, valueChecks}

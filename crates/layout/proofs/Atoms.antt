@@ -13,10 +13,10 @@ use mathlib.Core.List.{[], _∷_}
 use lib.Arith.{digits-div, digits-mod}
 use lib.Dec.{leb, ltb}
 use borrow.Author.Tests.{lt-ltb, le-leb, ltb-true, leb-true}
+use Rattle.general.proofs.TestLaws.{and-both, and-all}
 use Rattle.layout.specs.declared.CubeLayout.{CubeLayout}
 use Rattle.layout.specs.Geometry.{surfaces, atomPosition}
 use Rattle.layout.specs.Owners.{surfaceOf, rowOf, columnOf, byteInAtom, inAtom, atomOwner, owner}
-use Rattle.refusal.proofs.TestLaws.{and-both, and-all}
 use Rattle.layout.proofs.Valid.{Valid}
 
 module _ (q : CubeLayout) (ok : Valid q) where

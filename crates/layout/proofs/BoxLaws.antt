@@ -16,11 +16,11 @@ use mathlib.Core.List.{[], _∷_}
 use lib.Arith.{digits-div, digits-mod, digits-lt}
 use lib.Dec.{leb, ltb}
 use borrow.Author.Tests.{lt-ltb, le-leb, ltb-true, leb-true}
+use Rattle.general.proofs.TestLaws.{and-left, and-right, and-both, and-all}
 use Rattle.layout.specs.declared.CubeLayout.{CubeLayout}
 use Rattle.layout.specs.declared.ElementBox.{ElementBox}
 use Rattle.layout.specs.Geometry.{elementCount, rawIndex}
 use Rattle.layout.specs.Boxes.{wholeBox, boxCount, spanInside, boxInside, spanHas, boxHas, boxIndex, channelAt, rowAt, columnAt}
-use Rattle.refusal.proofs.TestLaws.{and-left, and-right, and-both, and-all}
 use Rattle.layout.proofs.Valid.{Valid}
 pub use Rattle.layout.specs.Places.{InBox, InCube}
 

@@ -14,9 +14,9 @@ use mathlib.Core.List.{List}
 use lib.ListN.{length, getD, List·getD-eq-default}
 use lib.Seq.{ext-getD}
 use lib.IntN.{ℤ, pos}
+use Rattle.general.proofs.Toward.{Toward}
 use Rattle.elements.specs.Bytes.{byteOf}
 use Rattle.elements.proofs.ListLaws.{length-remade, getD-remade}
-use Rattle.elements.proofs.Toward.{Toward}
 use Rattle.layout.specs.declared.CubeLayout.{CubeLayout}
 use Rattle.layout.specs.declared.ElementBox.{ElementBox}
 use Rattle.layout.specs.Geometry.{sizeOf, rawIndex, elementPosition}

@@ -12,16 +12,16 @@ use mathlib.Core.Bool.{true, false}
 use mathlib.Core.List.{[], _∷_}
 use lib.Dec.{leb}
 use borrow.Author.Tests.{lt-ltb, le-ltb, le-leb, lt-leb, eq-eqb, ne-eqb}
+use Rattle.general.proofs.TestLaws.{and-all}
 use Rattle.refusal.specs.declared.Answer.the-variants.{Accepted, Refused}
 use Rattle.refusal.specs.declared.Refusal.the-variants.{Size, Precision, CubeStrides, CubeStart}
 use Rattle.refusal.specs.Checks.{inOrder, requireAt}
+use Rattle.refusal.specs.Sizes.{sizeValid}
+use Rattle.refusal.proofs.SizeLaws.{size-pos, size-le}
 use Rattle.layout.specs.declared.CubeLayout.{CubeLayout}
 use Rattle.layout.specs.declared.ElementBox.{ElementBox}
 use Rattle.layout.specs.Boxes.{spanInside, boxInside}
-use Rattle.refusal.specs.Sizes.{sizeValid}
-use Rattle.refusal.proofs.SizeLaws.{size-pos, size-le}
 use Rattle.layout.specs.Rules.{sizesValid, wholeAtoms, stridesValid, layoutChecks}
-use Rattle.refusal.proofs.TestLaws.{and-all}
 
 module _ (w h line surface : ℕ) where
   pub strides-line : (line % 32 ≡ 0 → ⊥) → false ≡ stridesValid w h line surface

@@ -6,13 +6,13 @@ use mathlib.Core.Bool.{true}
 use mathlib.Core.List.{[], _∷_}
 use lib.Dec.{leb}
 use borrow.Author.Tests.{ltb-true, leb-true, eqb-true}
+use Rattle.general.proofs.TestLaws.{and-all}
 use Rattle.refusal.specs.declared.Answer.the-variants.{Accepted}
 use Rattle.refusal.specs.Checks.{inOrder}
-use Rattle.refusal.proofs.CheckLaws.{Held, inOrder-all, requireAt-held}
-use Rattle.refusal.proofs.TestLaws.{and-all}
-use Rattle.layout.specs.declared.CubeLayout.{CubeLayout}
 use Rattle.refusal.specs.Sizes.{sizeValid}
+use Rattle.refusal.proofs.CheckLaws.{Held, inOrder-all, requireAt-held}
 use Rattle.refusal.proofs.SizeLaws.{size-pos, size-le}
+use Rattle.layout.specs.declared.CubeLayout.{CubeLayout}
 use Rattle.layout.specs.Rules.{sizesValid, wholeAtoms, stridesValid, layoutChecks}
 
 pub record Valid (q : CubeLayout) : Type 0 where

@@ -1,4 +1,4 @@
-// Feature cubes: their layout in memory, and the checks that a call makes (scope paper, "Cells and cubes").
+// Feature cubes: the types of their layouts, boxes and bytes (scope paper, "Cells and cubes"). The calls are in `layout_calls`.
 use refusal::Refusal;
 
 // Sizes, precision code, strides and start of a packed cube (the scope paper's "frame").

@@ -1,4 +1,4 @@
-// Feature cubes: their layout in memory, and the checks that a call makes (scope paper, "Cells and cubes").
+// The checks of cube layouts and boxes, the extent, and whose a byte is: the calls on the definitions of `layout` (scope paper, "Cells and cubes").
 mod measure;
 mod owners;
 mod rules;

@@ -8,7 +8,8 @@
 --     CollectLaws  one call of `collect`, in terms of the lines of the whole input
 --     DigitLaws    decimal digits, how many there are, and written from the last one on
 --     DecimalLaws  decimal digits are the number's
---     Computed   lines, numbers and digits, computed
+--     Claims       a number's digits are read as that number
+--     Computed     lines, numbers and digits, computed
 pub mod SplitLaws
 pub mod TextLaws
 pub mod NumberLaws
@@ -19,3 +20,4 @@ pub mod CollectLaws
 pub mod DigitLaws
 pub mod DecimalLaws
 pub mod Computed
+pub mod Claims

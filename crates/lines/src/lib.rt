@@ -1,4 +1,4 @@
-// Lines of a text, collected from parts of any size, and what stands in a line: fields, words and numbers (scope paper, "The sheet program").
+// Lines of a text, and what stands in a line: the types of lines and numbers (scope paper, "The sheet program"). The calls are in `lines_calls`.
 
 // A line: its length, held at 121, and its first 120 bytes.
 pub struct Line {

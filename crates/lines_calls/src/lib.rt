@@ -1,4 +1,4 @@
-// Lines of a text, collected from parts of any size, and what stands in a line: fields, words and numbers (scope paper, "The sheet program").
+// Lines collected from parts of any size, their fields, words and numbers: the calls on the definitions of `lines` (scope paper, "The sheet program").
 ghost use mathlib.Core.Path.{_≡_};
 ghost use Rattle.lines.specs.Texts.{partLength, sameText};
 ghost use Rattle.lines.specs.Numbers.{wellBegun, numberOf, withMinus, signedOf, noNumbers, numbersBehind};

@@ -16,7 +16,7 @@ use lib.IntN.{ℤ, pos, negsuc, natAbs, _+ℤ_, _-ℤ_}
 use lib.Signed.{ltZ, leZ}
 use mir.Syntax.{w32}
 use mir.Val.{SFits}
-use Rattle.integers.proofs.UpDown.{up, leZ-true, leZ-false, ud-le}
+use Rattle.general.proofs.UpDown.{up, leZ-true, leZ-false, ud-le}
 use Rattle.lut.specs.declared.XMode.{XMode}
 use Rattle.lut.specs.declared.XMode.the-variants.{Linear, Exponential}
 use Rattle.lut.specs.declared.Side.the-variants.{Below, Hit, Above}

@@ -13,10 +13,10 @@ use lib.Count.{leadingZeros, leading-top}
 use lib.Dec.{lit<, ltb}
 use lib.Pow.{pow-pos}
 use lib.IntN.{ℤ, pos, negsuc, _-ℤ_}
-use Rattle.integers.proofs.UpDown.{ud-inj, take-ud, leZ-true}
+use Rattle.general.proofs.UpDown.{ud-inj, take-ud, leZ-true}
 use Rattle.lut.specs.Tables.{reaches}
 use Rattle.lut.specs.Numbers.{between, logBelow}
-use Rattle.lut.proofs.NumberLaws.{between-ud}
+use Rattle.lut.proofs.BetweenLaws.{between-ud}
 
 log-range : (n d : ℕ) → 0 < d → d < 2 ^ n → (2 ^ logBelow n d ≤ d) × (d < 2 * 2 ^ logBelow n d)
 unfolding logBelow

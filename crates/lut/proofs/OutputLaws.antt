@@ -11,6 +11,7 @@ use lib.IntN.{ℤ, pos}
 use lib.ListN.{length, List·getD-append}
 use mir.Syntax.{w32}
 use mir.Val.{SFits}
+use Rattle.general.proofs.NumberLaws.{ud-fits}
 use Rattle.refusal.specs.declared.Answer.the-variants.{Accepted}
 use Rattle.lut.specs.declared.Table.{Table}
 use Rattle.lut.specs.declared.Table.the-variants.{X, Y}
@@ -21,7 +22,7 @@ use Rattle.lut.specs.Tables.{entry, sideX, answerX, sideY, answerY}
 use Rattle.lut.specs.Samples.{sampleKind, answering, answerOf, sampleAnswer}
 use Rattle.lut.specs.Calls.{runAnswer, runOutputs}
 use Rattle.lut.specs.Hits.{Enclosed, indexX, indexY, Signed32}
-use Rattle.lut.proofs.NumberLaws.{between-abs, ud-fits}
+use Rattle.lut.proofs.BetweenLaws.{between-abs}
 use Rattle.lut.proofs.SideLaws.{yValid-parts}
 use Rattle.lut.proofs.ValidLaws.{Valid, valid-run, outputs-left}
 use Rattle.lut.proofs.EnclosedLaws.{x-enclosed, y-enclosed, x-agree, y-agree}

@@ -11,7 +11,8 @@ use lib.IntN.{ℤ, pos, negsuc, _+ℤ_}
 use lib.Signed.{leZ}
 use mir.Syntax.{w32}
 use mir.Val.{SFits}
-use Rattle.integers.proofs.UpDown.{leZ-true, le-leZ}
+use Rattle.general.proofs.UpDown.{leZ-true, le-leZ}
+use Rattle.general.proofs.TestLaws.{and-left, and-right}
 use Rattle.lut.specs.declared.XMode.the-variants.{Linear, Exponential}
 use Rattle.lut.specs.declared.XSettings.{XSettings}
 use Rattle.lut.specs.declared.YSettings.{YSettings}
@@ -19,8 +20,7 @@ use Rattle.lut.specs.Numbers.{between, scaled}
 use Rattle.lut.specs.Tables.{linearX}
 use Rattle.lut.specs.Rules.{modeValid, sameZ, endValid, shiftValid}
 use Rattle.lut.specs.Steps.{xValid, yValid}
-use Rattle.refusal.proofs.TestLaws.{and-left, and-right}
-use Rattle.lut.proofs.NumberLaws.{between-ud}
+use Rattle.lut.proofs.BetweenLaws.{between-ud}
 use Rattle.lut.proofs.AnswerLaws.{modeValid-linear, modeValid-exponential, endValid-linear, endValid-exponential}
 
 -- a linear table with last entry N whose settings are valid

@@ -10,12 +10,12 @@ use lib.Dec.{leb, eqb}
 use lib.IntN.{ℤ, pos, negsuc, _+ℤ_}
 use lib.ListN.{length}
 use borrow.Author.Tests.{leb-true, eqb-true}
+use Rattle.general.proofs.TestLaws.{and-left, and-right}
 use Rattle.refusal.specs.declared.Answer.the-variants.{Accepted, Refused}
 use Rattle.refusal.specs.declared.Refusal.{Refusal}
 use Rattle.refusal.specs.declared.Refusal.the-variants.{TableLength, XSelect, XEnd, YSelect, YEnd, Shift, Counters as CounterLimit, OutputLength}
 use Rattle.refusal.specs.Checks.{inOrder}
 use Rattle.refusal.proofs.CheckLaws.{Held, inOrder-all, requireAt-held, leaves-done, leaves-before}
-use Rattle.refusal.proofs.TestLaws.{and-left, and-right}
 use Rattle.lut.specs.declared.LutSettings.{LutSettings}
 use Rattle.lut.specs.declared.Counters.{Counters}
 use Rattle.lut.specs.Rules.{modeValid, sameZ, endValid, shiftValid, counterSum, lutChecks}

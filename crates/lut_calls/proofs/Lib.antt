@@ -1,3 +1,5 @@
+-- Laws of how the code takes the samples.
+--     LineLaws, RowLaws, ServeLaws, PlanLaws   numbers on a line, rows, the rows of a table, the rows of a run
 --     PairLaws                                 the counters from the pairs of sides
 --     PointLaws                                the points of a table written
 --     LoopLaws                                 the loop over the samples

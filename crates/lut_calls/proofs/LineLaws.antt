@@ -13,17 +13,17 @@ use lib.Signed.{leZ, shrZ}
 use mir.Syntax.{w16, w32}
 use mir.Val.{SFits}
 use mir.Facts.{sfits-widen}
+use Rattle.general.proofs.UpDown.{up, dn, ud-inj, add-ud, times-ud, up-times, dn-times, ud-le}
+use Rattle.general.proofs.FloorLaws.{shr-times-le, lt-shr-times, shr-is}
+use Rattle.general.proofs.NumberLaws.{times-one}
 use Rattle.integers.specs.Saturate.{saturate}
-use Rattle.integers.proofs.UpDown.{up, dn, ud-inj, add-ud, times-ud, up-times, dn-times, ud-le}
-use Rattle.integers.proofs.FloorLaws.{shr-times-le, lt-shr-times, shr-is}
 use Rattle.integers.proofs.SaturateLaws.{saturate-kept}
 use Rattle.lut.specs.declared.Slope.{Slope}
 use Rattle.lut.specs.Numbers.{shifted}
 use Rattle.lut.specs.Tables.{entry, interpolated, sloped}
+use Rattle.lut.proofs.HitLaws.{interpolated-first, mix-fits}
 use Rattle.lut_calls.specs.StepsRows.{onLine}
 use Rattle.lut_calls.specs.StepsPoints.{slopeRise, Stored}
-use Rattle.lut.proofs.NumberLaws.{times-one}
-use Rattle.lut.proofs.HitLaws.{interpolated-first, mix-fits}
 
 -- ---- past an end
 

@@ -13,8 +13,9 @@ use lib.ListN.{getD}
 use lib.Signed.{mag, ltZ, leZ}
 use mir.Syntax.{w32}
 use mir.Val.{SFits}
-use Rattle.integers.proofs.UpDown.{up, dn, add-ud, take-ud, ltZ-true, ltZ-false, leZ-true, leZ-false, le-ltZ, le-leZ, lt-leZ}
-use Rattle.refusal.proofs.TestLaws.{and-right}
+use Rattle.general.proofs.UpDown.{up, dn, add-ud, take-ud, ltZ-true, ltZ-false, leZ-true, leZ-false, le-ltZ, le-leZ, lt-leZ}
+use Rattle.general.proofs.TestLaws.{and-right}
+use Rattle.general.proofs.NumberLaws.{fits-up}
 use Rattle.lut.specs.declared.XMode.{XMode}
 use Rattle.lut.specs.declared.XMode.the-variants.{Linear, Exponential}
 use Rattle.lut.specs.declared.XSettings.{XSettings}
@@ -24,20 +25,19 @@ use Rattle.lut.specs.declared.Table.{Table}
 use Rattle.lut.specs.declared.Table.the-variants.{X, Y}
 use Rattle.lut.specs.declared.Side.{Side}
 use Rattle.lut.specs.declared.Side.the-variants.{Below, Hit, Above}
-use Rattle.lut_calls.specs.declared.Row.{Row}
-use Rattle.lut_calls.specs.declared.TableRows.{TableRows}
-use Rattle.lut_calls.specs.declared.Span.{Span}
-use Rattle.lut_calls.specs.declared.Bounds.{Bounds}
 use Rattle.lut.specs.Numbers.{scaled}
 use Rattle.lut.specs.Tables.{entry, linearSide, linearAnswer, linearX, reaches, exponentialSide, sideX, hitX, answerX, sideY, answerY}
 use Rattle.lut.specs.Samples.{kindOf, sampleKind, answering, answerOf, sampleAnswer}
 use Rattle.lut.specs.Rules.{sameZ}
 use Rattle.lut.specs.Steps.{xValid, yValid}
+use Rattle.lut.proofs.SideLaws.{Sound, soundY, soundX, xValid-below, xValid-offset, xValid-end}
+use Rattle.lut_calls.specs.declared.Row.{Row}
+use Rattle.lut_calls.specs.declared.TableRows.{TableRows}
+use Rattle.lut_calls.specs.declared.Span.{Span}
+use Rattle.lut_calls.specs.declared.Bounds.{Bounds}
 use Rattle.lut_calls.specs.StepsRows.{linearRows, rowsX, picked, rowsOf}
 use Rattle.lut_calls.specs.StepsPoints.{Stored}
 use Rattle.lut_calls.specs.StepsLoop.{sideOf, pairOf, firstX, boundsOf, wideOf, SettingsFit, rowFor, pairAnswer, AllReady}
-use Rattle.lut.proofs.NumberLaws.{fits-up}
-use Rattle.lut.proofs.SideLaws.{Sound, soundY, soundX, xValid-below, xValid-offset, xValid-end}
 use Rattle.lut_calls.proofs.ServeLaws.{Serves, serve-slope, serve-line, serve-power}
 
 -- the row of a side

@@ -17,14 +17,15 @@ use lib.Signed.{mag}
 use mir.Syntax.{w16, w32}
 use mir.Val.{SFits, toZ, ofZ}
 use mir.Facts.{sfits-widen, toZ-ofZ, toZ-pos}
-use Rattle.integers.proofs.UpDown.{up, dn, up-times, dn-times}
-use Rattle.integers.proofs.Ranges.{within-take, fits-within, within-fits}
-use Rattle.integers.proofs.Casts.{cast-value}
+use Rattle.general.proofs.UpDown.{up, dn, up-times, dn-times}
+use Rattle.general.proofs.Ranges.{within-take, fits-within, within-fits}
+use Rattle.general.proofs.Casts.{cast-value}
+use Rattle.general.proofs.NumberLaws.{nat-within, ud-fits}
 use Rattle.lut.specs.declared.Slope.{Slope}
 use Rattle.lut.specs.Tables.{entry}
 use Rattle.lut.specs.Rules.{shiftValid}
+use Rattle.lut.proofs.BetweenLaws.{between-abs}
 use Rattle.lut_calls.specs.StepsPoints.{slopeRise, Stored, Filled}
-use Rattle.lut.proofs.NumberLaws.{between-abs, nat-within, ud-fits}
 
 -- ---- a slope's rise
 

@@ -7,11 +7,11 @@ use native.Mathlib.Omega.{arith}
 use mathlib.Core.Path.{_≡_, refl, ap, _∙_}
 use mathlib.Core.List.{List}
 use lib.IntN.{ℤ, pos, natAbs, _-ℤ_, _*ℤ_, *ℤ-zero}
-use Rattle.integers.proofs.UpDown.{ud-inj, take-ud}
-use Rattle.lut_calls.specs.declared.Row.{Row}
+use Rattle.general.proofs.UpDown.{ud-inj, take-ud}
+use Rattle.general.proofs.NumberLaws.{times-one}
 use Rattle.lut.specs.Tables.{entry}
+use Rattle.lut_calls.specs.declared.Row.{Row}
 use Rattle.lut_calls.specs.StepsRows.{onLine, rowFar, rowSteps, rowPoint, rowRest, rowAnswer, Inside}
-use Rattle.lut.proofs.NumberLaws.{times-one}
 
 module _ (r : Row) (p : ℕ) (x : ℤ) where
   abbrev m : ℕ

@@ -12,19 +12,20 @@ use lib.IntN.{ℤ, pos, negsuc, natAbs, _+ℤ_, _-ℤ_, _*ℤ_, *ℤ-zero}
 use lib.Signed.{ltZ}
 use mir.Syntax.{w32}
 use mir.Val.{SFits}
-use Rattle.integers.proofs.UpDown.{up, dn, take-ud}
+use Rattle.general.proofs.UpDown.{up, dn, take-ud}
+use Rattle.general.proofs.NumberLaws.{times-one, within-abs}
 use Rattle.lut.specs.declared.Slope.{Slope}
-use Rattle.lut_calls.specs.declared.Row.{Row}
 use Rattle.lut.specs.Numbers.{between, scaled, logBelow}
 use Rattle.lut.specs.Tables.{entry, interpolated, linearHit, reaches, exponentialHit, sloped}
 use Rattle.lut.specs.Rules.{sameZ, shiftValid}
-use Rattle.lut_calls.specs.StepsRows.{rowFar, rowWide, rowPower, rowAnswer, Inside, Powered, slopeRow, lineRow, powerRow}
-use Rattle.lut_calls.specs.StepsPoints.{slopeRise, Stored}
-use Rattle.lut.proofs.NumberLaws.{times-one, between-abs, within-abs}
+use Rattle.lut.proofs.BetweenLaws.{between-abs}
 use Rattle.lut.proofs.HeldLaws.{apart-within}
 use Rattle.lut.proofs.AnswerLaws.{hit-distance, not-below, hit-far}
 use Rattle.lut.proofs.HitLaws.{fine, unit, line-le, line-step, line-last, linearHit-is}
 use Rattle.lut.proofs.LogLaws.{log-le, hit-range, hit-index}
+use Rattle.lut_calls.specs.declared.Row.{Row}
+use Rattle.lut_calls.specs.StepsRows.{rowFar, rowWide, rowPower, rowAnswer, Inside, Powered, slopeRow, lineRow, powerRow}
+use Rattle.lut_calls.specs.StepsPoints.{slopeRise, Stored}
 use Rattle.lut_calls.proofs.LineLaws.{onLine-slope, stored-hit}
 use Rattle.lut_calls.proofs.RowLaws.{off-inside, off-answer, on-inside, on-answer}
 

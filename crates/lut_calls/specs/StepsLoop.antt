@@ -10,15 +10,15 @@ use lib.ListN.{length, getD}
 use lib.Signed.{mag, ltZ, leZ}
 use mir.Syntax.{w32}
 use mir.Val.{SFits}
-use Rattle.integers.proofs.UpDown.{up}
-use Rattle.lut_calls.specs.declared.Row.{Row}
-use Rattle.lut_calls.specs.declared.Span.{Span}
-use Rattle.lut_calls.specs.declared.Bounds.{Bounds}
+use Rattle.general.proofs.UpDown.{up}
 use Rattle.lut.specs.declared.XMode.{XMode}
 use Rattle.lut.specs.declared.XMode.the-variants.{Linear, Exponential}
 use Rattle.lut.specs.declared.XSettings.{XSettings}
 use Rattle.lut.specs.declared.LutSettings.{LutSettings}
 use Rattle.lut.specs.declared.Counters.{Counters}
+use Rattle.lut_calls.specs.declared.Row.{Row}
+use Rattle.lut_calls.specs.declared.Span.{Span}
+use Rattle.lut_calls.specs.declared.Bounds.{Bounds}
 use Rattle.lut_calls.specs.StepsRows.{rowAnswer, Inside, Powered, rowPower}
 
 -- the number of a sample's side: 0 below, 1 hit, 2 above

@@ -5,7 +5,7 @@ use mathlib.Core.List.{List}
 use lib.IntN.{ℤ, pos, _-ℤ_, _*ℤ_}
 use lib.ListN.{length}
 use lib.Signed.{mag}
-use Rattle.integers.proofs.UpDown.{dn}
+use Rattle.general.proofs.UpDown.{dn}
 use Rattle.lut.specs.declared.Slope.{Slope}
 use Rattle.lut.specs.Tables.{entry}
 

@@ -6,10 +6,8 @@ use mathlib.Core.Bool.{Bool, cond}
 use mathlib.Core.List.{List, [], _∷_}
 use lib.IntN.{ℤ, pos, negsuc, natAbs, _+ℤ_, _-ℤ_, _*ℤ_}
 use lib.Signed.{shrZ}
+use Rattle.general.proofs.UpDown.{up, dn}
 use Rattle.integers.specs.Saturate.{saturate}
-use Rattle.integers.proofs.UpDown.{up, dn}
-use Rattle.lut_calls.specs.declared.Row.{Row}
-use Rattle.lut_calls.specs.declared.TableRows.{TableRows}
 use Rattle.lut.specs.declared.XMode.{XMode}
 use Rattle.lut.specs.declared.XMode.the-variants.{Linear, Exponential}
 use Rattle.lut.specs.declared.XSettings.{XSettings}
@@ -19,6 +17,8 @@ use Rattle.lut.specs.declared.Table.{Table}
 use Rattle.lut.specs.declared.Table.the-variants.{X, Y}
 use Rattle.lut.specs.Numbers.{logBelow}
 use Rattle.lut.specs.Tables.{entry, linearX}
+use Rattle.lut_calls.specs.declared.Row.{Row}
+use Rattle.lut_calls.specs.declared.TableRows.{TableRows}
 
 -- ---- what a row answers
 

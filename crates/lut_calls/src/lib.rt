@@ -1,4 +1,4 @@
-// The integer two-table lookup and its statistics (scope paper, "Two tables").
+// The run of the two-table lookup: the call on the definitions of `lut` (scope paper, "Two tables").
 mod numbers;
 mod points;
 mod rows;

@@ -2,7 +2,7 @@
 ghost use mathlib.Core.Path.{_≡_};
 ghost use Prim.Native.Nat.{_^_, _≤_};
 ghost use lib.IntN.{natAbs};
-ghost use Rattle.integers.proofs.UpDown.{up, dn};
+ghost use Rattle.general.proofs.UpDown.{up, dn};
 ghost use Rattle.lut.specs.Numbers.{logBelow};
 
 // z, or 0 where z is below 0.

@@ -5,8 +5,8 @@ ghost use Prim.Native.Nat.{_+_, _≤_, _<_};
 ghost use lib.ListN.{length, set};
 ghost use Rattle.lut.specs.Rules.{shiftValid};
 ghost use Rattle.lut_calls.specs.StepsPoints.{slopeRise, Filled};
-use lut::Slope;
 use crate::numbers;
+use lut::Slope;
 
 // How far a slope rises at each step of its row.
 fn rise(s: Slope) -> i32

@@ -5,14 +5,14 @@ ghost use Prim.Native.Nat.{_+_, _≤_};
 ghost use lib.IntN.{natAbs};
 ghost use Rattle.lut.specs.Rules.{modeValid};
 ghost use Rattle.lut_calls.specs.StepsRows.{slopeRow, lineRow, powerRow, linearRows, rowsX, picked, rowsOf};
-use lut::LutSettings;
 use crate::Row;
-use lut::Table;
 use crate::TableRows;
+use crate::numbers;
+use lut::LutSettings;
+use lut::Table;
 use lut::XMode;
 use lut::XSettings;
 use lut::YSettings;
-use crate::numbers;
 
 // The row past an end of a table.
 fn slope_row(origin: i32, shift: i32, base: usize) -> Row

@@ -8,12 +8,12 @@ ghost use Rattle.refusal.specs.Checks.{inOrder};
 ghost use Rattle.lut.specs.Numbers.{between, scaled};
 ghost use Rattle.lut.specs.Rules.{modeValid, sameZ, endValid, shiftValid, counterSum, lutChecks};
 ghost use Rattle.lut.specs.Steps.{tableChecks};
+use crate::numbers;
 use lut::Counters;
 use lut::LutSettings;
 use lut::XMode;
 use lut::XSettings;
 use lut::YSettings;
-use crate::numbers;
 use refusal::Answer;
 use refusal::Refusal;
 

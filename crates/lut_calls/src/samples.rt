@@ -11,15 +11,15 @@ ghost use Rattle.lut.specs.Steps.{xValid, yValid};
 ghost use Rattle.lut_calls.specs.StepsRows.{onLine, rowAnswer, rowPower, Inside, Powered};
 ghost use Rattle.lut_calls.specs.StepsLoop.{sideOf, pairOf, firstX, boundsOf, SettingsFit, wideOf, pairAnswer, Tally, AllReady, Ranged, summed, Roomy};
 use crate::Bounds;
-use lut::Counters;
-use lut::LutSettings;
 use crate::Row;
 use crate::Span;
-use lut::XMode;
-use lut::XSettings;
 use crate::numbers;
 use crate::points;
 use crate::rows;
+use lut::Counters;
+use lut::LutSettings;
+use lut::XMode;
+use lut::XSettings;
 
 // A sample's distance from an origin, in steps of a size.
 fn far(x: i32, origin: i32, size: i64) -> i64

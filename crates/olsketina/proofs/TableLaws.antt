@@ -18,7 +18,7 @@ use lib.ListN.{length, getD, set, length-set, List·getD-eq-default}
 use lib.Dec.{leb, ltb}
 use lib.Seq.{getD-set-same, getD-set-other, ext-getD}
 use borrow.Author.Tests.{lt-ltb, le-ltb, le-leb, lt-leb}
-use Rattle.refusal.proofs.TestLaws.{and-both}
+use Rattle.general.proofs.TestLaws.{and-both}
 use Rattle.elements.proofs.ListLaws.{length-remade, getD-remade}
 use Rattle.elements.proofs.TabulateLaws.{length-tabulate, getD-tabulate}
 use Rattle.layout.specs.declared.CubeLayout.{CubeLayout}

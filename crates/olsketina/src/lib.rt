@@ -4,7 +4,7 @@ ghost use Rattle.olsketina.specs.Sizes.{version};
 
 mod answers;
 pub mod cube_calls;
-pub mod lut_calls;
+pub mod lookup_calls;
 mod lut_words;
 pub mod pixel_calls;
 pub mod ready_calls;

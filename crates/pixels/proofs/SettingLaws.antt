@@ -8,16 +8,16 @@ use mathlib.Core.Bool.{true, false}
 use mathlib.Core.List.{[], _∷_}
 use lib.Dec.{ltb}
 use borrow.Author.Tests.{lt-ltb, le-ltb, le-leb, lt-leb, ltb-true}
+use Rattle.general.proofs.TestLaws.{and-all}
 use Rattle.refusal.specs.declared.Answer.the-variants.{Accepted, Refused}
 use Rattle.refusal.specs.declared.Refusal.{Refusal}
 use Rattle.refusal.specs.declared.Refusal.the-variants.{Size, PixelFormat as FormatCode, PixelKind, XOffset, PixelStrides, PixelOutside}
 use Rattle.refusal.specs.declared.Quantity.the-variants.{Is, Refused as NotGiven}
 use Rattle.refusal.specs.Checks.{inOrder, requireAt}
+use Rattle.refusal.specs.Sizes.{sizeValid}
 use Rattle.refusal.proofs.CheckLaws.{Held, inOrder-all, requireAt-held, inOrder-nil, inOrder-next, inOrder-stop, inOrder-passed, inOrder-refused, inOrder-front, inOrder-back, result-given, result-refused, quantity-given}
-use Rattle.refusal.proofs.TestLaws.{and-all}
 use Rattle.pixels.specs.declared.PixelSetting.{PixelSetting}
 use Rattle.pixels.specs.Formats.{formatOf}
-use Rattle.refusal.specs.Sizes.{sizeValid}
 use Rattle.pixels.specs.Places.{InImage}
 use Rattle.pixels.specs.Settings.{kindValid, stridesValid, settingChecks, settingAnswer, pixelPosition, positionQuantity}
 

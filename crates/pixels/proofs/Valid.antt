@@ -6,10 +6,10 @@ use mathlib.Core.Bool.{true}
 use mathlib.Core.List.{[], _∷_}
 use lib.Dec.{leb, eqb}
 use borrow.Author.Tests.{leb-true, eqb-true, le-leb, eq-eqb}
+use Rattle.general.proofs.TestLaws.{and-all}
 use Rattle.refusal.specs.declared.Answer.the-variants.{Accepted}
-use Rattle.refusal.proofs.CheckLaws.{Held, inOrder-all, requireAt-held}
-use Rattle.refusal.proofs.TestLaws.{and-all}
 use Rattle.refusal.specs.Sizes.{sizeValid}
+use Rattle.refusal.proofs.CheckLaws.{Held, inOrder-all, requireAt-held}
 use Rattle.refusal.proofs.SizeLaws.{size-pos, size-le, size-true}
 use Rattle.pixels.specs.declared.PixelSetting.{PixelSetting}
 use Rattle.pixels.specs.Formats.{formatOf}

@@ -1,4 +1,4 @@
-// One-plane pixel images: their formats, settings and positions (scope paper, "Pixels").
+// One-plane pixel images: the types of their formats and settings (scope paper, "Pixels"). The calls are in `pixels_calls`.
 
 // Channels, bytes a pixel, precision code and largest X offset of a pixel format.
 pub struct PixelFormat {

@@ -1,4 +1,4 @@
-// One-plane pixel images: their formats, settings and positions (scope paper, "Pixels").
+// The check of a pixel image's setting and the positions of its pixels: the calls on the definitions of `pixels` (scope paper, "Pixels").
 mod rules;
 mod table;
 

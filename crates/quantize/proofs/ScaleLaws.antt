@@ -7,21 +7,11 @@ use lib.Dec.{lit<}
 use lib.IntN.{ℤ, _-ℤ_, _*ℤ_}
 use lib.Signed.{shrZ}
 use mir.Syntax.{w16, w32, w64}
-use mir.Val.{SFits, toZ, ofZ}
+use mir.Val.{SFits}
 use mir.Facts.{sfits-widen, toZ-ofZ}
-use Rattle.integers.proofs.Ranges.{Within, within-take, within-times, within-shr, fits-within, within-fits}
-use Rattle.integers.proofs.Casts.{cast-value}
-
--- a 16-bit and a 32-bit number, cast to 64 bits
-abbrev from16 : ℤ → ℤ
-from16 z = toZ w64 (ofZ w64 (toZ w16 (ofZ w16 z)))
-
-abbrev from32 : ℤ → ℤ
-from32 z = toZ w64 (ofZ w64 (toZ w32 (ofZ w32 z)))
-
--- a 64-bit number, read back
-abbrev held : ℤ → ℤ
-held z = toZ w64 (ofZ w64 z)
+use Rattle.general.proofs.Ranges.{Within, within-take, within-times, within-shr, fits-within, within-fits}
+use Rattle.general.proofs.Casts.{cast-value}
+use Rattle.general.proofs.NumberLaws.{from16, from32, held}
 
 module _ {d offset scale : ℤ} (fd : SFits w32 d) (fo : SFits w16 offset) (fs : SFits w16 scale) where
   diff-within : Within (2 ^ 31 + 2 ^ 15) (d -ℤ offset)

@@ -7,8 +7,8 @@ use mathlib.Core.Path.{_≡_}
 use mathlib.Core.Bool.{true, false}
 use lib.Dec.{leb}
 use borrow.Author.Tests.{le-leb, lt-leb, leb-true}
+use Rattle.general.proofs.TestLaws.{and-left, and-right, and-both}
 use Rattle.refusal.specs.Sizes.{sizeValid}
-use Rattle.refusal.proofs.TestLaws.{and-left, and-right, and-both}
 
 module _ (most n : ℕ) where
   pub size-small : n < 1 → false ≡ sizeValid most n

@@ -1,4 +1,4 @@
--- Laws of the definitions of specs/, for the crates above; the last two serve this crate alone.
+-- Laws of the definitions of specs/, for the crates above.
 --     Computed      regions of the paper's frame and the orders, computed
 --     RuleLaws      the orders of checks: what an accepted placing, edit or read tells
 --     OverlapLaws   a placing overlaps exactly if some position is in a rectangle already placed

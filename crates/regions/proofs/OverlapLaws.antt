@@ -12,8 +12,8 @@ use mathlib.Core.Bool.{Bool, true, false, _||_, or-true}
 use mathlib.Core.List.{List, [], _∷_}
 use lib.Dec.{leb}
 use borrow.Author.Tests.{le-leb, leb-true, lt-ltb, ltb-true}
+use Rattle.general.proofs.TestLaws.{and-left, and-right, and-both}
 use Rattle.layout.specs.Boxes.{spanHas}
-use Rattle.refusal.proofs.TestLaws.{and-left, and-right, and-both}
 use Rattle.regions.specs.declared.Rectangle.{Rectangle}
 use Rattle.regions.specs.Slots.{Slot, empty, filled, rectangleHas, occupied, anyFrom, overlaps}
 use Rattle.regions.specs.Rules.{slotAt}

@@ -11,10 +11,10 @@ use mathlib.Core.Bool.{true, false}
 use mathlib.Core.List.{[], _∷_}
 use lib.Dec.{ltb}
 use borrow.Author.Tests.{ltb-true, not-true}
+use Rattle.general.proofs.TestLaws.{and-left, and-right, and-all}
 use Rattle.refusal.specs.declared.Answer.the-variants.{Accepted}
 use Rattle.refusal.specs.Checks.{inOrder}
 use Rattle.refusal.proofs.CheckLaws.{Held, inOrder-front, inOrder-back, inOrder-all, requireAt-held}
-use Rattle.refusal.proofs.TestLaws.{and-left, and-right, and-all}
 use Rattle.layout.specs.declared.CubeLayout.{CubeLayout}
 use Rattle.layout.specs.declared.ElementBox.{ElementBox}
 use Rattle.layout.specs.Boxes.{spanInside}

@@ -1,4 +1,4 @@
-// Sixteen regions of interest in one cube, edited side by side (scope paper, "Stalls").
+// Sixteen regions of interest in one cube, edited side by side: the types (scope paper, "Stalls"). The calls are in `regions_calls`.
 use layout::CubeLayout;
 use refusal::Answer;
 

@@ -10,13 +10,13 @@ use mathlib.Core.List.{List}
 use lib.ListN.{length, getD, List·getD-eq-default}
 use lib.Dec.{leb, ltb}
 use borrow.Author.Tests.{le-leb, leb-true, lt-ltb, ltb-true}
-use Rattle.refusal.proofs.TestLaws.{and-left, and-right, and-both}
+use Rattle.general.proofs.TestLaws.{and-left, and-right, and-both}
 use Rattle.regions.specs.declared.Rectangle.{Rectangle}
 use Rattle.regions.specs.Slots.{Slot, empty, filled, overlaps}
 use Rattle.regions.specs.Rules.{slotAt}
 use Rattle.regions.specs.Overlaps.{Shared}
-use Rattle.regions_calls.specs.Steps.{spansMeet, slotMeets}
 use Rattle.regions.proofs.OverlapLaws.{InRectangle, has-in, in-has, overlaps-shared, shared-overlaps}
+use Rattle.regions_calls.specs.Steps.{spansMeet, slotMeets}
 
 -- a test that cannot hold fails
 fails : (t : Bool) → (t ≡ true → ⊥) → t ≡ false

@@ -1,4 +1,4 @@
-// Sixteen regions of interest in one cube, edited side by side (scope paper, "Stalls").
+// Placing, editing and reading sixteen regions: the calls on the definitions of `regions` (scope paper, "Stalls").
 mod overlap;
 mod rules;
 

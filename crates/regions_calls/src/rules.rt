@@ -8,14 +8,14 @@ ghost use Rattle.regions.specs.Slots.{slotOf, slotsOf, rectangleInside};
 ghost use Rattle.regions.specs.Rules.{slotAt, boxInRectangle, accessOf, slotChecks};
 ghost use Rattle.regions_calls.specs.Steps.{boxIn, foundBox};
 ghost use Rattle.regions.specs.Calls.{placeAnswer};
-use regions::Rectangle;
-use regions::Region;
-use regions::RegionTable;
 use crate::overlap;
 use layout::CubeLayout;
 use layout::ElementBox;
 use refusal::Answer;
 use refusal::Refusal;
+use regions::Rectangle;
+use regions::Region;
+use regions::RegionTable;
 
 // A box of the cube, or refused with the index at fault.
 pub(crate) enum FoundBox {

@@ -1,4 +1,4 @@
-// The sheet's input, fed in parts of any size: each line gets a row (scope paper, "The sheet program").
+// The sheet: the types of its state and rows (scope paper, "The sheet program"). The calls are in `script_calls`.
 use lines::Line;
 use lines::Lines;
 use refusal::Answer;

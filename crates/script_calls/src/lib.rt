@@ -1,4 +1,4 @@
-// The sheet's input, fed in parts of any size: each line gets a row (scope paper, "The sheet program").
+// The sheet's input, fed in parts of any size, and its rows' text: the calls on the definitions of `script` (scope paper, "The sheet program").
 mod answers;
 
 ghost use mathlib.Core.Path.{_≡_};

@@ -1,10 +1,10 @@
--- Laws of the definitions of specs/, for the crates above. The last seven serve the walk alone.
+-- Laws of the definitions of specs/, for the crates above.
 --     Computed        the paper's weights and the orders of checks, computed
 --     Valid           what accepted sizes tell
 --     RuleLaws        checks 1, 2, then 6, 5 or 9, as the code goes through them
 --     CallLaws        what an accepted call tells, and what each call answers and leaves
 --     NumberLaws      an element's number by its five digits
---     OffsetLaws       the digits of each number below the count
+--     OffsetLaws      the digits of each number below the count
 --     ElementLaws     numbers and raw indices of elements, no two of them shared
 --     IndexLaws       numbers and raw indices, inverse to each other
 --     SurfaceLaws     the packed surface, and each byte after packing
@@ -13,7 +13,6 @@
 --     PackLaws        what an accepted packing comes to
 --     Claims          the claims about packed weights, of the calls
 --     BoundLaws       counts within 64 bits
---     WriteLaws, ReadLaws     what writing and reading all runs leave
 pub mod Computed
 pub mod Valid
 pub mod RuleLaws

@@ -1,7 +1,7 @@
 -- The bytes of the elements: each element has its own, aligned, inside the surface, and every byte below the last element's end is one of them.
 -- A byte's position is a number of two digits, the element's number and the byte. Assumes nothing.
 --     position-own, position-aligned, position-inside     an element's place
---     ElementByte, element-byte, byte-element             a byte of an element, exactly below the last one's end
+--     ElementByte, element-byte                           a byte of an element, exactly below the last one's end
 --     packing-writes                                      the byte there after packing
 use Prim.Native.Nat.{ℕ, suc, _+_, _*_, _/_, _%_, _≤_, _<_}
 use native.Mathlib.Nat.{mul-mod-left, mul-le-mul-right, mod-lt, div-add-mod', div-lt-iff-lt-mul}
@@ -47,11 +47,6 @@ module _ (q : WeightLayout) where
   unfolding elementPosition
   position-inside k c r s x =
       omega (arith, surface-ge q, mul-le-mul-right {m = suc (elementNumber q k c r s)} {n = elementCount q} (sizeOf q) (number-lt q k c r s x))
-
-  pub byte-element : (p : ℕ) → ElementByte q p → p < elementCount q * sizeOf q
-  unfolding elementPosition
-  byte-element p x =
-      omega (arith, x .place, byte-within q (elementNumber q (x .k) (x .c) (x .r) (x .s)) (x .b) (number-lt q (x .k) (x .c) (x .r) (x .s) (x .element)) (x .byte-lt))
 
   pub element-byte : Valid q → (p : ℕ) → p < elementCount q * sizeOf q → ElementByte q p
   unfolding elementPosition

@@ -7,10 +7,10 @@ use mathlib.Core.Path.{_≡_}
 use mathlib.Core.Bool.{true, _&&_}
 use lib.Dec.{ltb}
 use borrow.Author.Tests.{ltb-true, lt-ltb}
-use Rattle.refusal.proofs.TestLaws.{and-left, and-right, and-both}
-use Rattle.weights.specs.declared.WeightLayout.{WeightLayout}
+use Rattle.general.proofs.TestLaws.{and-left, and-right, and-both}
 use Rattle.refusal.specs.Sizes.{sizeValid}
 use Rattle.refusal.proofs.SizeLaws.{size-pos, size-le}
+use Rattle.weights.specs.declared.WeightLayout.{WeightLayout}
 use Rattle.weights.specs.Places.{Element}
 use Rattle.weights.specs.Rules.{sizesValid, elementInside}
 

@@ -1,4 +1,4 @@
-// Direct-convolution weights, packed and read back; positions and counts (scope paper, "Weights").
+// Direct-convolution weights: the type of their layout (scope paper, "Weights"). The calls are in `weights_calls`.
 
 // Kernels, channels, rows and columns of a weight tensor (the scope paper's K, C, R, S), and its precision code.
 pub struct WeightLayout {

@@ -8,20 +8,20 @@ use mathlib.Core.List.{List}
 use lib.ListN.{length, getD}
 use lib.IntN.{ℤ, pos}
 use lib.Seq.{ext-getD}
+use Rattle.general.proofs.Toward.{Toward, reached-kept}
 use Rattle.elements.specs.Bytes.{elementAt}
 use Rattle.elements.proofs.TabulateLaws.{length-tabulate, getD-tabulate}
-use Rattle.elements.proofs.Toward.{Toward, reached-kept}
 use Rattle.columns.specs.Blocks.{blockRead}
 use Rattle.columns.proofs.BlockLaws.{BlockFits}
 use Rattle.columns.proofs.TowardLaws.{block-read-toward, block-read-reached}
 use Rattle.weights.specs.declared.WeightLayout.{WeightLayout}
-use Rattle.weights_calls.specs.declared.walk.Run.{Run}
 use Rattle.weights.specs.Geometry.{sizeOf, elementCount, surfaceBytes, rawAt, numberAt}
 use Rattle.weights.specs.Contents.{unpacked}
-use Rattle.weights_calls.specs.Steps.{AtRun, NextRun, runColumns}
 use Rattle.weights.proofs.Valid.{Valid}
 use Rattle.weights.proofs.IndexLaws.{rawAt-lt, numberAt-lt, numberAt-rawAt, rawAt-numberAt}
 use Rattle.weights.proofs.SurfaceLaws.{surface-ge}
+use Rattle.weights_calls.specs.declared.walk.Run.{Run}
+use Rattle.weights_calls.specs.Steps.{AtRun, NextRun, runColumns}
 use Rattle.weights_calls.proofs.CellLaws.{Holds, run-holds, holds-fits}
 use Rattle.weights_calls.proofs.WalkLaws.{RunHas, Walked, walked-first, walked-next, walked-all}
 

@@ -8,14 +8,14 @@ use native.Mathlib.Omega.{arith}
 use mathlib.Core.Path.{_≡_, ap, _∙_, subst}
 use mathlib.Core.Logic.{⊎-elim}
 use mathlib.Core.List.{List}
-use Rattle.elements.proofs.Toward.{Toward, toward-refl, toward-trans}
+use Rattle.general.proofs.Toward.{Toward, toward-refl, toward-trans}
 use Rattle.weights.specs.declared.WeightLayout.{WeightLayout}
-use Rattle.weights_calls.specs.declared.walk.Run.{Run}
 use Rattle.weights.specs.Geometry.{groupOf, elementCount, groupKernels, blockChannels, groupAt, blockAt, pixelAt, inBlock}
 use Rattle.weights.specs.StepsPixels.{pixelNumber}
-use Rattle.weights_calls.specs.Steps.{groupIn, AtKernel, AtRun, rankOf, NextRun}
 use Rattle.weights.proofs.Valid.{Valid}
 use Rattle.weights.proofs.OffsetLaws.{group-below, block-below, place-at, number-at}
+use Rattle.weights_calls.specs.declared.walk.Run.{Run}
+use Rattle.weights_calls.specs.Steps.{groupIn, AtKernel, AtRun, rankOf, NextRun}
 use Rattle.weights_calls.proofs.RunLaws.{run-small, group-of, first-run}
 use Rattle.weights_calls.proofs.CellLaws.{OfRun}
 

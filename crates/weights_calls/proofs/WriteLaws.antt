@@ -14,21 +14,21 @@ use lib.ListN.{length, getD}
 use lib.IntN.{ℤ, pos}
 use lib.Seq.{ext-getD}
 use borrow.Author.Tests.{lt-ltb, le-ltb}
+use Rattle.general.proofs.Toward.{Toward, reached-kept}
 use Rattle.elements.specs.Bytes.{byteOf}
 use Rattle.elements.proofs.ByteLaws.{elementBytes-pos}
 use Rattle.elements.proofs.ListLaws.{length-remade, getD-remade}
-use Rattle.elements.proofs.Toward.{Toward, reached-kept}
 use Rattle.columns.specs.Blocks.{blockWritten, cleared}
 use Rattle.columns.proofs.BlockLaws.{BlockFits}
 use Rattle.columns.proofs.TowardLaws.{block-written-toward, block-written-reached}
 use Rattle.columns.proofs.ClearLaws.{cleared-length, cleared-in, cleared-out}
 use Rattle.weights.specs.declared.WeightLayout.{WeightLayout}
-use Rattle.weights_calls.specs.declared.walk.Run.{Run}
 use Rattle.weights.specs.Geometry.{sizeOf, elementCount, surfaceBytes, rawAt}
 use Rattle.weights.specs.Contents.{packed}
-use Rattle.weights_calls.specs.Steps.{AtRun, NextRun, runColumns, written}
 use Rattle.weights.proofs.Valid.{Valid}
 use Rattle.weights.proofs.SurfaceLaws.{surface-ge, byte-within, packed-length, packed-at, packed-byte, packed-fill, packed-past}
+use Rattle.weights_calls.specs.declared.walk.Run.{Run}
+use Rattle.weights_calls.specs.Steps.{AtRun, NextRun, runColumns, written}
 use Rattle.weights_calls.proofs.CellLaws.{Holds, run-holds, holds-fits}
 use Rattle.weights_calls.proofs.WalkLaws.{RunHas, Walked, walked-first, walked-next, walked-all}
 

@@ -4,8 +4,8 @@ ghost use mathlib.Core.Bool.{true};
 ghost use Rattle.weights.specs.Geometry.{elementNumber, elementPosition};
 ghost use Rattle.weights.specs.Rules.{sizesValid};
 ghost use Rattle.weights.specs.Places.{Element};
-use weights::WeightLayout;
 use crate::walk;
+use weights::WeightLayout;
 
 // The number of an element: the elements of the groups before its own and of the blocks before its own there, then those before it in the block.
 fn number_of(layout: WeightLayout, kernel: u32, channel: u32, row: u32, column: u32) -> u64

@@ -1,4 +1,4 @@
-// Direct-convolution weights, packed and read back; positions and counts (scope paper, "Weights").
+// Weights packed and read back, positions and counts: the calls on the definitions of `weights` (scope paper, "Weights").
 mod element;
 mod measure;
 mod read;
@@ -62,7 +62,7 @@ pub fn pack(layout: WeightLayout, elements: &[i16], buffer: &mut [u8]) -> Answer
     write::runs(layout, elements, buffer);
     let end = measure::weight_bytes(layout) as usize;
     let whole = measure::surface_bytes(layout) as usize;
-    columns::clear(end, whole - end, buffer);
+    columns_calls::clear(end, whole - end, buffer);
     Answer::Accepted
 }
 

@@ -7,8 +7,8 @@ ghost use lib.Dec.{leb};
 ghost use Rattle.weights.specs.Geometry.{groupSize, groupOf};
 ghost use Rattle.weights.specs.Rules.{sizesValid};
 ghost use Rattle.weights_calls.specs.Steps.{AtRun, NextRun, runColumns};
-use weights::WeightLayout;
 use columns::ColumnBlock;
+use weights::WeightLayout;
 
 // The first kernel of a group, the channel block, and the run's first kernel in the group.
 pub(crate) struct Run {

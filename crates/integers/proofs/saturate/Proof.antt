@@ -3,7 +3,7 @@ use mathlib.Core.Path.{_≡_, sym, _∙_}
 use mathlib.Core.Bool.{false}
 use lib.Signed.{ltZ}
 use mir.Facts.{toZ-ofZ}
-use Rattle.integers.proofs.Casts.{ltZ-held}
+use Rattle.general.proofs.Casts.{ltZ-held}
 use Rattle.integers.proofs.SaturateLaws.{saturate-low, saturate-high, saturate-same}
 use Rattle.integers.proofs.saturate.Statement.{statement}
 use Rattle.integers.proofs.saturate.Tie as tie

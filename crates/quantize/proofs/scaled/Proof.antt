@@ -1,9 +1,9 @@
 -- `quantize::scaled` meets its contract: difference, product and shift stay within 64 bits. Assumes nothing.
 use Prim.Native.Nat.{_^_}
 use mir.Facts.{sfits-widen}
-use Rattle.integers.proofs.Casts.{cast-fits}
-use Rattle.quantize.proofs.ScaleLaws.{diff-fits, product-fits, shifted-value}
 use borrow.Author.Needs.{needs}
+use Rattle.general.proofs.Casts.{cast-fits}
+use Rattle.quantize.proofs.ScaleLaws.{diff-fits, product-fits, shifted-value}
 use Rattle.quantize.proofs.scaled.Statement.{statement}
 use Rattle.quantize.proofs.scaled.Tie as tie
 

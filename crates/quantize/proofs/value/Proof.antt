@@ -7,7 +7,7 @@ use borrow.Author.Needs.{needs, sfits-of}
 use mir.Syntax.{w16}
 use mir.Val.{SFits}
 use mir.Facts.{toZ-ofZ}
-use Rattle.integers.proofs.Casts.{cast-fits, cast-value}
+use Rattle.general.proofs.Casts.{cast-fits, cast-value}
 use Rattle.quantize.specs.Quantize.{quantized}
 use Rattle.quantize.proofs.AnswerLaws.{quantized-fits, saturated-value}
 use Rattle.quantize.proofs.value.Statement.{statement}

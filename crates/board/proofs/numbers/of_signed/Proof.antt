@@ -7,7 +7,7 @@ use mir.Syntax.{w32, w64}
 use mir.Val.{SFits, toZ, ofZ}
 use mir.Facts.{toZ-ofZ, sfits-widen}
 use borrow.Author.Needs.{needs}
-use Rattle.board.proofs.SignedLaws.{raised, raised-is, raised-lt}
+use Rattle.general.proofs.SignedLaws.{raised, raised-is, raised-lt}
 use Rattle.board.proofs.numbers.of_signed.Statement.{statement}
 use Rattle.board.proofs.numbers.of_signed.Tie as tie
 

@@ -6,18 +6,18 @@ use mathlib.Core.Path.{_≡_, sym, ap, subst, subst⁻¹, _∙_}
 use mathlib.Core.List.{List}
 use lib.ListN.{length}
 use lib.IntN.{ℤ, pos}
+use borrow.Author.Needs.{needs}
+use Rattle.general.proofs.Toward.{Toward, toward-refl, toward-trans}
+use Rattle.general.proofs.NestLaws.{Before, Rows, before-none, rows-none, rows-more, before-more}
+use Rattle.elements.proofs.ByteLaws.{elementBytes-pos, elementBytes-le}
 use Rattle.columns.specs.declared.ColumnBlock.{ColumnBlock}
 use Rattle.columns.specs.Blocks.{blockRead}
-use Rattle.elements.proofs.ByteLaws.{elementBytes-pos, elementBytes-le}
-use Rattle.elements.proofs.Toward.{Toward, toward-refl, toward-trans}
 use Rattle.layout.specs.Geometry.{sizeOf}
 use Rattle.layout.specs.Boxes.{boxCount}
 use Rattle.layout.specs.Contents.{boxElements}
 use Rattle.layout.proofs.CallLaws.{Admitted, admitted, admit-front}
 use Rattle.cube.specs.Steps.{AtomEnd, rowBlock}
-use Rattle.cube.proofs.NestLaws.{Before, Rows, before-none, rows-none, rows-more, before-more}
 use Rattle.cube.proofs.ReadLaws.{RowRead, read-keep, read-toward, read-reached, read-only}
-use borrow.Author.Needs.{needs}
 use Rattle.cube.proofs.read.all.Statement.{statement}
 use Rattle.cube.proofs.read.all.Tie as tie
 

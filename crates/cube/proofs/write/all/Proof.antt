@@ -8,18 +8,18 @@ use mathlib.Core.Logic.{⊎-elim}
 use mathlib.Core.List.{List}
 use lib.Dec.{eqb}
 use lib.ListN.{length}
+use borrow.Author.Needs.{needs}
+use Rattle.general.proofs.Toward.{Toward, toward-refl, toward-trans}
+use Rattle.general.proofs.NestLaws.{Before, Rows, before-none, rows-none, rows-more, before-more}
+use Rattle.elements.proofs.ByteLaws.{elementBytes-pos, elementBytes-le}
 use Rattle.columns.specs.declared.ColumnBlock.{ColumnBlock}
 use Rattle.columns.specs.Blocks.{blockWritten, cleared}
-use Rattle.elements.proofs.ByteLaws.{elementBytes-pos, elementBytes-le}
-use Rattle.elements.proofs.Toward.{Toward, toward-refl, toward-trans}
 use Rattle.layout.specs.declared.ElementBox.{ElementBox}
 use Rattle.layout.specs.Geometry.{sizeOf, cubeExtent}
 use Rattle.layout.proofs.CallLaws.{Admitted, admitted, admit-front}
 use Rattle.cube.specs.Steps.{AtomEnd, rowBlock, rowWritten, boxWritten}
-use Rattle.cube.proofs.NestLaws.{Before, Rows, before-none, rows-none, rows-more, before-more}
 use Rattle.cube.proofs.GoalLaws.{Goal, Reached, reached-keep, written-goal}
 use Rattle.cube.proofs.WriteLaws.{RowDone, row-done}
-use borrow.Author.Needs.{needs}
 use Rattle.cube.proofs.write.all.Statement.{statement}
 use Rattle.cube.proofs.write.all.Tie as tie
 

@@ -4,7 +4,7 @@ use mathlib.Core.Bool.{true, false}
 use lib.IntN.{pos}
 use lib.Signed.{ltZ}
 use mir.Facts.{toZ-ofZ}
-use Rattle.lut.proofs.NumberLaws.{up-neg, up-pos, above-cast}
+use Rattle.general.proofs.NumberLaws.{up-neg, up-pos, above-cast}
 use Rattle.lut_calls.proofs.numbers.above_zero.Statement.{statement}
 use Rattle.lut_calls.proofs.numbers.above_zero.Tie as tie
 

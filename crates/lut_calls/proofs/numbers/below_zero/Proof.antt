@@ -7,9 +7,9 @@ use borrow.Author.Needs.{needs}
 use mir.Syntax.{w32}
 use mir.Val.{SFits, toZ, ofZ}
 use mir.Facts.{toZ-ofZ}
-use Rattle.integers.proofs.UpDown.{up}
-use Rattle.integers.proofs.Ranges.{within-take, within-fits}
-use Rattle.lut.proofs.NumberLaws.{nat-within, abs-within, up-turned}
+use Rattle.general.proofs.UpDown.{up}
+use Rattle.general.proofs.Ranges.{within-take, within-fits}
+use Rattle.general.proofs.NumberLaws.{nat-within, abs-within, up-turned}
 use Rattle.lut_calls.proofs.numbers.below_zero.Statement.{statement}
 use Rattle.lut_calls.proofs.numbers.below_zero.Tie as tie
 

@@ -1,6 +1,6 @@
 -- `lut_calls::numbers::power` meets its contract: the power stays within 32 bits. Assumes nothing.
 use borrow.Author.Needs.{needs}
-use Rattle.lut.proofs.NumberLaws.{one-shl}
+use Rattle.general.proofs.NumberLaws.{one-shl}
 use Rattle.lut_calls.proofs.numbers.power.Statement.{statement}
 use Rattle.lut_calls.proofs.numbers.power.Tie as tie
 

@@ -8,9 +8,9 @@ use borrow.Author.Needs.{needs}
 use mir.Syntax.{w16}
 use mir.Val.{SFits}
 use mir.Facts.{sfits-widen}
-use Rattle.integers.proofs.Casts.{cast-fits}
+use Rattle.general.proofs.Casts.{cast-fits}
+use Rattle.general.proofs.NumberLaws.{back16, back32}
 use Rattle.lut.specs.Tables.{entry}
-use Rattle.lut.proofs.NumberLaws.{back16, back32}
 use Rattle.lut_calls.proofs.PointLaws.{step-fits, step-value, Begun, begun, begun-next, filled}
 use Rattle.lut_calls.proofs.points.fill.Statement.{statement}
 use Rattle.lut_calls.proofs.points.fill.Tie as tie

@@ -5,9 +5,9 @@ use mathlib.Core.Path.{_≡_, ap, _∙_}
 use mir.Syntax.{w16}
 use mir.Val.{SFits}
 use mir.Facts.{sfits-widen}
-use Rattle.integers.proofs.Casts.{cast-fits}
-use Rattle.integers.proofs.UpDown.{dn}
-use Rattle.lut.proofs.NumberLaws.{back32, ud-abs}
+use Rattle.general.proofs.Casts.{cast-fits}
+use Rattle.general.proofs.UpDown.{dn}
+use Rattle.general.proofs.NumberLaws.{back32, ud-abs}
 use Rattle.lut_calls.proofs.PointLaws.{shift-ud, rise-le, count-fits, rise-fits, rise-value}
 use Rattle.lut_calls.proofs.points.rise.Statement.{statement}
 use Rattle.lut_calls.proofs.points.rise.Tie as tie

@@ -5,9 +5,9 @@ use mathlib.Core.Path.{_≡_, refl}
 use borrow.Author.Needs.{needs}
 use mir.Syntax.{w64}
 use mir.Facts.{toZ-ofZ, toZ-pos}
-use Rattle.integers.proofs.UpDown.{up, dn}
+use Rattle.general.proofs.UpDown.{up, dn}
+use Rattle.general.proofs.NumberLaws.{power-le, abs-ud}
 use Rattle.lut_calls.specs.StepsRows.{lineRow}
-use Rattle.lut.proofs.NumberLaws.{power-le, abs-ud}
 use Rattle.lut_calls.proofs.rows.line_row.Statement.{statement}
 use Rattle.lut_calls.proofs.rows.line_row.Tie as tie
 

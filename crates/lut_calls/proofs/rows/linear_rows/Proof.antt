@@ -2,8 +2,8 @@
 use Prim.Native.Nat.{_+_}
 use mathlib.Core.Path.{_≡_, refl}
 use borrow.Author.Needs.{needs}
+use Rattle.general.proofs.NumberLaws.{back32}
 use Rattle.lut_calls.specs.StepsRows.{slopeRow, lineRow, linearRows}
-use Rattle.lut.proofs.NumberLaws.{back32}
 use Rattle.lut_calls.proofs.rows.linear_rows.Statement.{statement}
 use Rattle.lut_calls.proofs.rows.linear_rows.Tie as tie
 

@@ -8,10 +8,10 @@ use lib.Signed.{nonNeg}
 use mir.Syntax.{w32, w64}
 use mir.Val.{Fits, SFits, toZ, ofZ}
 use mir.Facts.{toZ-ofZ}
-use Rattle.integers.proofs.UpDown.{up, dn, take-ud}
-use Rattle.integers.proofs.Ranges.{within-take, within-fits}
+use Rattle.general.proofs.UpDown.{up, dn, take-ud}
+use Rattle.general.proofs.Ranges.{within-take, within-fits}
+use Rattle.general.proofs.NumberLaws.{nat-within, abs-within, abs-ud}
 use Rattle.lut_calls.specs.StepsRows.{powerRow}
-use Rattle.lut.proofs.NumberLaws.{nat-within, abs-within, abs-ud}
 use Rattle.lut_calls.proofs.rows.power_row.Statement.{statement}
 use Rattle.lut_calls.proofs.rows.power_row.Tie as tie
 

@@ -2,10 +2,11 @@
 use native.Mathlib.Omega.{arith}
 use mathlib.Core.Path.{_≡_, refl, _∙_}
 use borrow.Author.Needs.{needs}
+use Rattle.general.proofs.NumberLaws.{back32, ud-abs}
 use Rattle.lut.specs.Tables.{linearX}
-use Rattle.lut_calls.specs.StepsRows.{slopeRow, powerRow, linearRows, rowsX}
-use Rattle.lut.proofs.NumberLaws.{back32, between-abs, ud-abs}
+use Rattle.lut.proofs.BetweenLaws.{between-abs}
 use Rattle.lut.proofs.AnswerLaws.{modeValid-linear, modeValid-exponential}
+use Rattle.lut_calls.specs.StepsRows.{slopeRow, powerRow, linearRows, rowsX}
 use Rattle.lut_calls.proofs.rows.rows_x.Statement.{statement}
 use Rattle.lut_calls.proofs.rows.rows_x.Tie as tie
 

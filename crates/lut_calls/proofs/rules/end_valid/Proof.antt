@@ -3,9 +3,9 @@ use borrow.Author.Needs.{needs}
 use mathlib.Core.Path.{_≡_, refl, _∙_}
 use lib.IntN.{pos, negsuc, _+ℤ_}
 use lib.Dec.{lit≤}
+use Rattle.general.proofs.NumberLaws.{back32}
 use Rattle.lut.specs.Numbers.{scaled}
 use Rattle.lut.specs.Rules.{sameZ}
-use Rattle.lut.proofs.NumberLaws.{back32}
 use Rattle.lut.proofs.AnswerLaws.{modeValid-linear, endValid-linear}
 use Rattle.lut.proofs.SideLaws.{wider}
 use Rattle.lut.proofs.RuleLaws.{endValid-last}

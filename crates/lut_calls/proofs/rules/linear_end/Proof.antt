@@ -4,7 +4,7 @@ use Prim.Native.Nat.{_≤_}
 use mathlib.Core.Path.{_≡_, sym, subst}
 use Prim.Native.Nat.{ℕ}
 use mir.Facts.{sfits-widen, toZ-ofZ}
-use Rattle.integers.proofs.Casts.{cast-fits, cast-value}
+use Rattle.general.proofs.Casts.{cast-fits, cast-value}
 use Rattle.lut.specs.Numbers.{scaled}
 use Rattle.lut.proofs.RuleLaws.{scaled-le, sum-fits, sum-value, count-fits, same-end}
 use Rattle.lut_calls.proofs.rules.linear_end.Statement.{statement}

@@ -2,8 +2,8 @@
 use mathlib.Core.Path.{_≡_, _∙_}
 use lib.IntN.{pos, negsuc}
 use borrow.Author.Needs.{needs}
+use Rattle.general.proofs.NumberLaws.{back32}
 use Rattle.lut.specs.Numbers.{between}
-use Rattle.lut.proofs.NumberLaws.{back32}
 use Rattle.lut.proofs.AnswerLaws.{modeValid-linear, modeValid-exponential}
 use Rattle.lut_calls.proofs.rules.mode_valid.Statement.{statement}
 use Rattle.lut_calls.proofs.rules.mode_valid.Tie as tie

@@ -3,8 +3,9 @@ use native.Mathlib.Omega.{arith}
 use mathlib.Core.Path.{_≡_}
 use borrow.Author.Needs.{needs}
 use mir.Facts.{toZ-ofZ}
-use Rattle.integers.proofs.UpDown.{up, dn}
-use Rattle.lut.proofs.NumberLaws.{between-abs, ud-abs}
+use Rattle.general.proofs.UpDown.{up, dn}
+use Rattle.general.proofs.NumberLaws.{ud-abs}
+use Rattle.lut.proofs.BetweenLaws.{between-abs}
 use Rattle.lut.proofs.RuleLaws.{scaled-is}
 use Rattle.lut_calls.proofs.rules.scaled.Statement.{statement}
 use Rattle.lut_calls.proofs.rules.scaled.Tie as tie

@@ -1,6 +1,6 @@
 -- `lut_calls::rules::select_valid` meets its contract: what it hands on is read back. Assumes nothing.
 use borrow.Author.Needs.{needs}
-use Rattle.lut.proofs.NumberLaws.{back32}
+use Rattle.general.proofs.NumberLaws.{back32}
 use Rattle.lut_calls.proofs.rules.select_valid.Statement.{statement}
 use Rattle.lut_calls.proofs.rules.select_valid.Tie as tie
 

@@ -1,8 +1,8 @@
 -- `lut_calls::rules::shifts_valid` meets its contract: what it hands on is read back. Assumes nothing.
 use mathlib.Core.Path.{_≡_}
 use borrow.Author.Needs.{needs}
+use Rattle.general.proofs.NumberLaws.{back32}
 use Rattle.lut.specs.Rules.{shiftValid}
-use Rattle.lut.proofs.NumberLaws.{back32}
 use Rattle.lut_calls.proofs.rules.shifts_valid.Statement.{statement}
 use Rattle.lut_calls.proofs.rules.shifts_valid.Tie as tie
 

@@ -2,7 +2,7 @@
 use mathlib.Core.Path.{refl}
 use lib.IntN.{pos, negsuc}
 use lib.Dec.{lit≤}
-use Rattle.lut.proofs.NumberLaws.{back32}
+use Rattle.general.proofs.NumberLaws.{back32}
 use Rattle.lut.proofs.SideLaws.{wider}
 use Rattle.lut_calls.proofs.rules.y_end_valid.Statement.{statement}
 use Rattle.lut_calls.proofs.rules.y_end_valid.Tie as tie

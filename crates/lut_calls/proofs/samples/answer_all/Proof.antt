@@ -4,13 +4,14 @@ use mathlib.Core.Path.{_≡_, refl, ap, ap₂, _∙_}
 use mathlib.Core.List.{List, map}
 use lib.IntN.{ℤ}
 use borrow.Author.Needs.{needs}
-use Rattle.lut_calls.specs.declared.TableRows.{TableRows}
+use Rattle.general.proofs.NumberLaws.{ud-abs}
 use Rattle.lut.specs.Samples.{sampleAnswer}
+use Rattle.lut.proofs.BetweenLaws.{between-abs}
+use Rattle.lut.proofs.SideLaws.{yValid-parts, xValid-mode, xValid-below, xValid-above}
+use Rattle.lut_calls.specs.declared.TableRows.{TableRows}
 use Rattle.lut_calls.specs.StepsRows.{linearRows, rowsX, rowsOf}
 use Rattle.lut_calls.specs.StepsPoints.{Stored}
 use Rattle.lut_calls.specs.StepsLoop.{boundsOf, wideOf, SettingsFit, pairOf, pairAnswer, Tally, countAt}
-use Rattle.lut.proofs.NumberLaws.{between-abs, ud-abs}
-use Rattle.lut.proofs.SideLaws.{yValid-parts, xValid-mode, xValid-below, xValid-above}
 use Rattle.lut_calls.proofs.PointLaws.{stored-kept}
 use Rattle.lut_calls.proofs.PlanLaws.{pairNumber, pair-is, ready-by, planned-ready, planned-answer}
 use Rattle.lut_calls.proofs.LoopLaws.{nothing-seen, map-ranged, count-ranged}

@@ -2,9 +2,9 @@
 use mathlib.Core.Path.{refl, _∙_}
 use borrow.Author.Needs.{needs}
 use mir.Facts.{sfits-widen}
-use Rattle.integers.proofs.Casts.{cast-fits, cast-value}
+use Rattle.general.proofs.Casts.{cast-fits, cast-value}
+use Rattle.general.proofs.NumberLaws.{back64}
 use Rattle.lut_calls.specs.StepsLoop.{boundsOf, SettingsFit}
-use Rattle.lut.proofs.NumberLaws.{back64}
 use Rattle.lut_calls.proofs.samples.bounds_of.Statement.{statement}
 use Rattle.lut_calls.proofs.samples.bounds_of.Tie as tie
 

@@ -11,10 +11,10 @@ use lib.IntN.{ℤ, pos}
 use lib.Signed.{mag}
 use mir.Syntax.{w32}
 use mir.Val.{toZ, ofZ}
+use Rattle.general.proofs.NumberLaws.{back32}
 use Rattle.lut_calls.specs.declared.Row.{Row}
 use Rattle.lut_calls.specs.StepsRows.{rowAnswer, rowPower}
 use Rattle.lut_calls.specs.StepsLoop.{pairOf, rowFor, pairAnswer, countAt, Tally}
-use Rattle.lut.proofs.NumberLaws.{back32}
 use Rattle.lut_calls.proofs.PlanLaws.{pair-lt}
 use Rattle.lut_calls.proofs.LoopLaws.{answered-next, answered-all, tally-le, tally-next}
 use Rattle.lut_calls.proofs.samples.each.Statement.{statement}

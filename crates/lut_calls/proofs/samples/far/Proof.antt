@@ -1,6 +1,6 @@
 -- `lut_calls::samples::far` meets its contract: the distance stays within 64 bits. Assumes nothing.
 use mir.Facts.{sfits-widen}
-use Rattle.integers.proofs.Casts.{cast-fits}
+use Rattle.general.proofs.Casts.{cast-fits}
 use Rattle.lut.proofs.HeldLaws.{apart-fits, far-fits, far-value}
 use Rattle.lut_calls.proofs.samples.far.Statement.{statement}
 use Rattle.lut_calls.proofs.samples.far.Tie as tie

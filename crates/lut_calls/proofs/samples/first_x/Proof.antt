@@ -7,12 +7,13 @@ use borrow.Author.Needs.{needs}
 use mir.Syntax.{w32}
 use mir.Val.{SFits}
 use mir.Facts.{sfits-widen}
-use Rattle.integers.proofs.UpDown.{up}
-use Rattle.integers.proofs.Casts.{cast-fits, cast-value}
-use Rattle.lut_calls.specs.StepsLoop.{firstX}
-use Rattle.lut.proofs.NumberLaws.{back32, power-le, between-abs}
+use Rattle.general.proofs.UpDown.{up}
+use Rattle.general.proofs.Casts.{cast-fits, cast-value}
+use Rattle.general.proofs.NumberLaws.{back32, power-le}
+use Rattle.lut.proofs.BetweenLaws.{between-abs}
 use Rattle.lut.proofs.AnswerLaws.{modeValid-exponential}
 use Rattle.lut.proofs.RuleLaws.{sum-fits, sum-value}
+use Rattle.lut_calls.specs.StepsLoop.{firstX}
 use Rattle.lut_calls.proofs.samples.first_x.Statement.{statement}
 use Rattle.lut_calls.proofs.samples.first_x.Tie as tie
 

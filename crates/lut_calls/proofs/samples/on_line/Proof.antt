@@ -6,11 +6,11 @@ use borrow.Author.Needs.{needs, sfits-of}
 use mir.Syntax.{w32}
 use mir.Val.{SFits}
 use mir.Facts.{sfits-lit, sfits-widen}
+use Rattle.general.proofs.Casts.{cast-fits, cast-value}
 use Rattle.integers.specs.Saturate.{saturate}
 use Rattle.integers.proofs.SaturateLaws.{fits-saturate}
-use Rattle.integers.proofs.Casts.{cast-fits, cast-value}
-use Rattle.lut_calls.specs.StepsRows.{onLine}
 use Rattle.lut.proofs.HeldLaws.{product-fits, line-fits, line-value}
+use Rattle.lut_calls.specs.StepsRows.{onLine}
 use Rattle.lut_calls.proofs.samples.on_line.Statement.{statement}
 use Rattle.lut_calls.proofs.samples.on_line.Tie as tie
 

@@ -4,9 +4,9 @@ use mathlib.Core.Path.{_≡_, ap, _∙_}
 use lib.IntN.{ℤ, natAbs, _-ℤ_, _*ℤ_}
 use borrow.Author.Needs.{needs}
 use mir.Facts.{toZ-ofZ}
+use Rattle.general.proofs.NumberLaws.{held, back32, back64}
 use Rattle.lut.specs.Numbers.{logBelow}
 use Rattle.lut_calls.specs.StepsRows.{rowWide, rowPower}
-use Rattle.lut.proofs.NumberLaws.{held, back32, back64}
 use Rattle.lut_calls.proofs.samples.power_of.Statement.{statement}
 use Rattle.lut_calls.proofs.samples.power_of.Tie as tie
 

@@ -7,9 +7,9 @@ use lib.IntN.{ℤ}
 use lib.Signed.{leZ, ltZ}
 use borrow.Author.Needs.{needs}
 use mir.Facts.{sfits-widen}
-use Rattle.integers.proofs.Casts.{cast-fits, cast-value}
+use Rattle.general.proofs.Casts.{cast-fits, cast-value}
+use Rattle.general.proofs.NumberLaws.{back64}
 use Rattle.lut_calls.specs.StepsLoop.{sideOf}
-use Rattle.lut.proofs.NumberLaws.{back64}
 use Rattle.lut_calls.proofs.PlanLaws.{side-le}
 use Rattle.lut_calls.proofs.samples.side.Statement.{statement}
 use Rattle.lut_calls.proofs.samples.side.Tie as tie

@@ -8,10 +8,10 @@ use borrow.Author.Needs.{needs}
 use mir.Syntax.{w16, w32, w64}
 use mir.Val.{SFits, toZ, ofZ}
 use mir.Facts.{toZ-ofZ}
+use Rattle.general.proofs.NumberLaws.{held, back16, back32, back64}
 use Rattle.lut.specs.Tables.{entry}
-use Rattle.lut_calls.specs.StepsRows.{onLine, rowFar, rowSteps, rowPoint, rowRest, rowAnswer}
-use Rattle.lut.proofs.NumberLaws.{held, back16, back32, back64}
 use Rattle.lut.proofs.HeldLaws.{on-fits, on-cast, steps-is, whole-fits, left-fits, left-value}
+use Rattle.lut_calls.specs.StepsRows.{onLine, rowFar, rowSteps, rowPoint, rowRest, rowAnswer}
 use Rattle.lut_calls.proofs.samples.value.Statement.{statement}
 use Rattle.lut_calls.proofs.samples.value.Tie as tie
 

@@ -1,5 +1,5 @@
 -- `olsketina::lut_words::scale_words` meets its contract: the numbers are those of the settings. Assumes nothing.
-use Rattle.lut.proofs.NumberLaws.{back16}
+use Rattle.general.proofs.NumberLaws.{back16}
 use Rattle.olsketina.proofs.lut_words.scale_words.Statement.{statement}
 use Rattle.olsketina.proofs.lut_words.scale_words.Tie as tie
 

@@ -1,5 +1,5 @@
 -- `olsketina::lut_words::shift_words` meets its contract: the numbers are those of the settings. Assumes nothing.
-use Rattle.lut.proofs.NumberLaws.{back32}
+use Rattle.general.proofs.NumberLaws.{back32}
 use Rattle.olsketina.proofs.lut_words.shift_words.Statement.{statement}
 use Rattle.olsketina.proofs.lut_words.shift_words.Tie as tie
 
