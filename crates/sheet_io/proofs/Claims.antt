@@ -1,14 +1,14 @@
 -- What a run of the sheet program wrote (scope paper, "The sheet program"). Assumes nothing.
 use Prim.Native.Nat.{ℕ, _^_, _<_}
-use mathlib.Core.Path.{_≡_, ap, _∙_}
+use mathlib.Core.Path.{_≡_}
 use mathlib.Core.List.{List, flatten}
 use lib.ListN.{length}
 use Rattle.lines.specs.Texts.{linesOf}
 use Rattle.script.specs.Output.{output}
-use Rattle.script.proofs.Claims.{output-cut}
 use Rattle.sheet_io.specs.declared.Printed.{Printed}
 use Rattle.sheet_io.specs.Printing.{checksum, Whole}
+use Rattle.sheet_io.proofs.PrintLaws.{whole-text}
 
 -- the header, the row of each line and no more: the whole output of all that was read, if it has fewer than 2^64 lines
 pub whole-output : (p : Printed) (w : Whole p) → length (linesOf (flatten (w .parts))) < 2 ^ 64 → p .sum ≡ checksum 0 (output (flatten (w .parts)))
-whole-output p w h = w .sum ∙ ap (checksum 0) (output-cut (w .parts) h)
+whole-output = whole-text

@@ -4,7 +4,8 @@
 --     call-printed                     one call for a part, before the calls after it
 --     reading-none, reading-more       no part is read, one part more
 --     reading-end, reading-whole       the end of the input
-use Prim.Native.Nat.{ℕ, _+_, _-_, _≤_, _<_, min}
+--     whole-text                       the whole output
+use Prim.Native.Nat.{ℕ, _+_, _-_, _^_, _≤_, _<_, min}
 use native.Mathlib.Nat.{min-eq-left, min-eq-right}
 use native.Mathlib.Numerals.{add-one}
 use native.Mathlib.Decide.{decLe}
@@ -14,6 +15,7 @@ use mathlib.Core.List.{List, [], _∷_, _++_, map, flatten, append-assoc, append
 use lib.ListN.{length, take, drop, getD, drop-of-length-le}
 use lib.Seq.{drop-cons, take-all}
 use Rattle.lines.specs.declared.Line.{Line}
+use Rattle.lines.specs.Texts.{linesOf}
 use Rattle.lines.specs.Collecting.{lineText, written}
 use Rattle.lines.proofs.HoldLaws.{written-text}
 use Rattle.script.specs.declared.Sheet.{Sheet}
@@ -22,9 +24,10 @@ use Rattle.script.specs.declared.Row.{Row}
 use Rattle.script.specs.declared.Given.{Given}
 use Rattle.script.specs.declared.Given.the-variants.{Nothing, Line as Ended}
 use Rattle.script.specs.Feed.{Outcome, startSheet, fed, finished, andThen, thenFed, partFed, wholePart, rowsOfParts}
-use Rattle.script.specs.Output.{header, rowText, givenText, outputOfParts}
+use Rattle.script.specs.Output.{header, rowText, givenText, output, outputOfParts}
 use Rattle.script.proofs.CallLaws.{part-next}
 use Rattle.script.proofs.OutputLaws.{handed-over}
+use Rattle.script.proofs.Claims.{output-cut}
 use Rattle.sheet_io.specs.declared.Printed.{Printed}
 use Rattle.sheet_io.specs.Printing.{mixed, checksum, rowsText, startPrinted, callsPrinted, partPrinted, partsPrinted, endPrinted, Reading, Whole}
 
@@ -126,3 +129,7 @@ pub reading-whole : {p q : Printed} → Reading p → q ≡ endPrinted p → Who
 reading-whole r e =
     let all = e ∙ ap endPrinted (r .printed) in
     record { parts = r .parts; state = ap (λ (x : Printed). x .sheet) all; sum = ap (λ (x : Printed). x .sum) all ∙ parts-whole (r .parts) }
+
+-- the whole output of all that was read
+pub whole-text : (p : Printed) (w : Whole p) → length (linesOf (flatten (w .parts))) < 2 ^ 64 → p .sum ≡ checksum 0 (output (flatten (w .parts)))
+whole-text p w h = w .sum ∙ ap (checksum 0) (output-cut (w .parts) h)

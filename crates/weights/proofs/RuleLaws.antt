@@ -13,7 +13,7 @@ use Rattle.refusal.specs.declared.Answer.the-variants.{Accepted, Refused}
 use Rattle.refusal.specs.declared.Refusal.{Refusal}
 use Rattle.refusal.specs.declared.Refusal.the-variants.{Size, Precision, BufferLength, ElementCount, Bounds}
 use Rattle.refusal.specs.Checks.{inOrder, require}
-use Rattle.refusal.proofs.CheckLaws.{inOrder-nil, inOrder-next, inOrder-stop, inOrder-held, inOrder-passed, inOrder-refused, inOrder-front, inOrder-back}
+use Rattle.refusal.proofs.CheckLaws.{Held, inOrder-all, requireAt-held, inOrder-nil, inOrder-next, inOrder-stop, inOrder-passed, inOrder-refused, inOrder-front, inOrder-back}
 use Rattle.weights.specs.declared.WeightLayout.{WeightLayout}
 use Rattle.weights.specs.Geometry.{elementCount, surfaceBytes}
 use Rattle.weights.specs.Rules.{sizesValid, settingChecks, weightChecks, elementInside, elementChecks}
@@ -27,8 +27,8 @@ module _ (q : WeightLayout) where
   setting-sizes e = sym (inOrder-stop 0 Size r2 e)
 
   pub setting-held : inOrder (settingChecks q) ≡ Accepted → sizesValid q ≡ true
-  unfolding r2
-  setting-held e = inOrder-held 0 Size (sizesValid q) r2 e
+  unfolding settingChecks Held
+  setting-held e = requireAt-held _ _ _ (inOrder-all _ e .0)
 
   module _ (sz : sizesValid q ≡ true) where
     to-precision : inOrder (settingChecks q) ≡ inOrder r2
@@ -100,6 +100,5 @@ module _ (q : WeightLayout) (k c r s : ℕ) where
 
   -- an accepted element: its setting was accepted, and the tensor has it
   pub element-held : inOrder (elementChecks q k c r s) ≡ Accepted → (sizesValid q ≡ true) × (elementInside q k c r s ≡ true)
-  unfolding elementChecks r9
-  element-held e =
-      (setting-held q (inOrder-front (settingChecks q) r9 e), inOrder-held 0 Bounds (elementInside q k c r s) [] (inOrder-back (settingChecks q) r9 e))
+  unfolding elementChecks r9 Held
+  element-held e = (setting-held q (inOrder-front (settingChecks q) r9 e), requireAt-held _ _ _ (inOrder-all _ (inOrder-back (settingChecks q) r9 e) .0))
