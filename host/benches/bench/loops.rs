@@ -3,6 +3,7 @@
 
 use crate::reference::{cube, elements, lookup as plain_lookup, regions, weights};
 use olsketina::{Answer, Counters, ElementBox, Layout, Lookup, Mode, Slope, Table, TableSettings, Weights};
+use std::ops::Range;
 
 const ATOM: usize = 32;
 
@@ -10,100 +11,85 @@ fn element_bytes(precision: u32) -> usize {
     elements::bytes_of(precision.into()) as usize
 }
 
-/// Where the atom of a channel, row and column begins.
-fn atom(layout: &Layout, channel: usize, row: usize, column: usize) -> usize {
-    let surface = channel * element_bytes(layout.precision) / ATOM;
-    layout.start as usize + surface * layout.surface as usize + row * layout.line as usize + column * ATOM
-}
-
-/// Writes a row of one channel, whose elements begin at byte `at` of each atom.
-fn write_row(precision: u32, atoms: &mut [u8], at: usize, row: &[i16]) {
-    if precision == 0 {
-        for (atom, &v) in atoms.chunks_exact_mut(ATOM).zip(row) {
-            atom[at] = v as u8;
-        }
+/// Writes each element, of so many bytes, from byte `at` of its chunk on.
+#[inline(always)]
+fn write<'a>(bytes: usize, to: impl Iterator<Item = &'a mut [u8]>, at: usize, from: impl Iterator<Item = &'a i16>) {
+    if bytes == 1 {
+        to.zip(from).for_each(|(to, &v)| to[at] = v as u8);
     } else {
-        for (atom, &v) in atoms.chunks_exact_mut(ATOM).zip(row) {
-            atom[at..at + 2].copy_from_slice(&v.to_le_bytes());
-        }
+        to.zip(from).for_each(|(to, &v)| to[at..at + 2].copy_from_slice(&v.to_le_bytes()));
     }
 }
 
-/// Reads a row of one channel.
-fn read_row(precision: u32, atoms: &[u8], at: usize, row: &mut [i16]) {
-    if precision == 0 {
-        for (atom, v) in atoms.chunks_exact(ATOM).zip(row) {
-            *v = i16::from(atom[at] as i8);
-        }
+/// Reads each element.
+#[inline(always)]
+fn read<'a>(bytes: usize, from: impl Iterator<Item = &'a [u8]>, at: usize, to: impl Iterator<Item = &'a mut i16>) {
+    if bytes == 1 {
+        from.zip(to).for_each(|(from, v)| *v = i16::from(from[at] as i8));
     } else {
-        for (atom, v) in atoms.chunks_exact(ATOM).zip(row) {
-            *v = i16::from_le_bytes([atom[at], atom[at + 1]]);
-        }
+        from.zip(to).for_each(|(from, v)| *v = i16::from_le_bytes([from[at], from[at + 1]]));
     }
 }
 
-#[inline(never)]
-pub fn pack(layout: &Layout, elements: &[i16], buffer: &mut [u8]) -> Answer<()> {
-    cube::admitted(*layout, elements.len(), buffer.len())?;
-    elements::check_values(layout.precision, elements)?;
-    let [width, height, channels] = [layout.width, layout.height, layout.channels].map(|size| size as usize);
-    let bytes = element_bytes(layout.precision);
-    for h in 0..height {
-        for first in (0..channels).step_by(ATOM / bytes) {
-            let held = (channels - first).min(ATOM / bytes);
-            let begin = atom(layout, first, h, 0);
-            let atoms = &mut buffer[begin..begin + ATOM * width];
-            if held * bytes < ATOM {
-                atoms.fill(0);
-            }
-            for i in 0..held {
-                let raw = ((first + i) * height + h) * width;
-                write_row(layout.precision, atoms, i * bytes, &elements[raw..raw + width]);
-            }
-        }
-    }
-    Ok(())
-}
-
-#[inline(never)]
-pub fn unpack(layout: &Layout, buffer: &[u8], elements: &mut [i16]) -> Answer<()> {
-    cube::admitted(*layout, elements.len(), buffer.len())?;
-    let [width, height, channels] = [layout.width, layout.height, layout.channels].map(|size| size as usize);
-    let bytes = element_bytes(layout.precision);
-    for h in 0..height {
-        for c in 0..channels {
-            let begin = atom(layout, c, h, 0);
-            let raw = (c * height + h) * width;
-            let atoms = &buffer[begin..begin + ATOM * width];
-            read_row(layout.precision, atoms, c * bytes % ATOM, &mut elements[raw..raw + width]);
-        }
-    }
-    Ok(())
-}
-
-#[inline(never)]
-pub fn edit(table: &Table, slot: u32, part: &ElementBox, elements: &[i16], buffer: &mut [u8]) -> Answer<()> {
-    let regions::InCube { first, sizes, .. } = regions::admitted(table, slot, *part, elements.len(), buffer.len())?;
-    let layout = table.layout();
-    elements::check_values(layout.precision, elements)?;
-    let [channel, row, left] = first.map(|first| first as usize);
-    let [channels, rows, columns] = sizes.map(|size| size as usize);
-    let bytes = element_bytes(layout.precision);
+/// Goes through a box, given by its first channel, row and column and how many there are of each: row by row, in each channel by channel. `run`
+/// gets the byte of the channel in all channels, the row's atoms and its elements.
+fn walk_box(layout: Layout, [first, sizes]: [[usize; 3]; 2], mut run: impl FnMut(usize, Range<usize>, Range<usize>)) {
+    let [channels, rows, columns] = sizes;
+    let [start, surface, line] = [layout.start, layout.surface, layout.line].map(|bytes| bytes as usize);
     for h in 0..rows {
-        for i in 0..channels {
-            let c = channel + i;
-            let begin = atom(&layout, c, row + h, left);
-            let raw = (i * rows + h) * columns;
-            let atoms = &mut buffer[begin..begin + ATOM * columns];
-            write_row(layout.precision, atoms, c * bytes % ATOM, &elements[raw..raw + columns]);
+        for c in 0..channels {
+            let byte = (first[0] + c) * element_bytes(layout.precision);
+            let atom = start + byte / ATOM * surface + (first[1] + h) * line + first[2] * ATOM;
+            let raw = (c * rows + h) * columns;
+            run(byte, atom..atom + ATOM * columns, raw..raw + columns);
         }
     }
+}
+
+fn whole(layout: Layout) -> [[usize; 3]; 2] {
+    [[0; 3], [layout.channels, layout.height, layout.width].map(|size| size as usize)]
+}
+
+/// Writes a box; where it begins an atom that the channels do not fill, it may clear it.
+fn write_box(layout: Layout, part: [[usize; 3]; 2], clear: bool, elements: &[i16], buffer: &mut [u8]) -> Answer<()> {
+    elements::check_values(layout.precision, elements)?;
+    let bytes = element_bytes(layout.precision);
+    let all = layout.channels as usize * bytes;
+    walk_box(layout, part, |byte, atoms, raw| {
+        let atoms = &mut buffer[atoms];
+        if clear && byte % ATOM == 0 && all - byte < ATOM {
+            atoms.fill(0);
+        }
+        write(bytes, atoms.chunks_exact_mut(ATOM), byte % ATOM, elements[raw].iter());
+    });
     Ok(())
 }
 
-/// Goes in the order of the surface: group, block, position in the kernel, kernel. `run` gets the byte at which the block's channels begin, the
-/// raw index of the first of them, and how many there are. The answer is the byte after the last.
-fn walk(layout: &Weights, mut run: impl FnMut(usize, usize, usize)) -> usize {
+#[inline(never)]
+pub fn pack(layout: Layout, elements: &[i16], buffer: &mut [u8]) -> Answer<()> {
+    cube::admitted(layout, elements.len(), buffer.len())?;
+    write_box(layout, whole(layout), true, elements, buffer)
+}
+
+#[inline(never)]
+pub fn edit(table: &Table, slot: u32, part: ElementBox, elements: &[i16], buffer: &mut [u8]) -> Answer<()> {
+    let regions::InCube { first, sizes, .. } = regions::admitted(table, slot, part, elements.len(), buffer.len())?;
+    write_box(table.layout(), [first, sizes].map(|sizes| sizes.map(|size| size as usize)), false, elements, buffer)
+}
+
+#[inline(never)]
+pub fn unpack(layout: Layout, buffer: &[u8], elements: &mut [i16]) -> Answer<()> {
+    cube::admitted(layout, elements.len(), buffer.len())?;
+    let bytes = element_bytes(layout.precision);
+    walk_box(layout, whole(layout), |byte, atoms, raw| {
+        read(bytes, buffer[atoms].chunks_exact(ATOM), byte % ATOM, elements[raw].iter_mut());
+    });
+    Ok(())
+}
+
+/// Goes in the order of the surface: group, block, position in the kernel, kernel. `run` gets the bytes of the block's channels and their
+/// elements, of which each `places`th is one of theirs. The answer is the byte after the last.
+fn walk_surface(layout: Weights, mut run: impl FnMut(Range<usize>, Range<usize>, usize)) -> usize {
     let [kernels, channels] = [layout.kernels, layout.channels].map(|size| size as usize);
     let places = (layout.rows * layout.columns) as usize;
     let bytes = element_bytes(layout.precision);
@@ -114,7 +100,8 @@ fn walk(layout: &Weights, mut run: impl FnMut(usize, usize, usize)) -> usize {
             let block = (channels - c0).min(64);
             for place in 0..places {
                 for k in k0..kernels.min(k0 + group) {
-                    run(at, (k * channels + c0) * places + place, block);
+                    let raw = (k * channels + c0) * places + place;
+                    run(at..at + block * bytes, raw..raw + (block - 1) * places + 1, places);
                     at += block * bytes;
                 }
             }
@@ -124,51 +111,23 @@ fn walk(layout: &Weights, mut run: impl FnMut(usize, usize, usize)) -> usize {
 }
 
 #[inline(never)]
-pub fn pack_weights(layout: &Weights, elements: &[i16], buffer: &mut [u8]) -> Answer<()> {
-    weights::admitted(*layout, elements.len(), buffer.len())?;
+pub fn pack_weights(layout: Weights, elements: &[i16], buffer: &mut [u8]) -> Answer<()> {
+    weights::admitted(layout, elements.len(), buffer.len())?;
     elements::check_values(layout.precision, elements)?;
-    let places = (layout.rows * layout.columns) as usize;
     let bytes = element_bytes(layout.precision);
-    let end = walk(layout, |at, raw, block| {
-        let kernel = &elements[raw..raw + (block - 1) * places + 1];
-        let out = &mut buffer[at..at + block * bytes];
-        let mut i = 0;
-        if bytes == 1 {
-            for byte in out {
-                *byte = kernel[i] as u8;
-                i += places;
-            }
-        } else {
-            for pair in out.chunks_exact_mut(2) {
-                pair.copy_from_slice(&kernel[i].to_le_bytes());
-                i += places;
-            }
-        }
+    let end = walk_surface(layout, |block, raw, places| {
+        write(bytes, buffer[block].chunks_mut(bytes), 0, elements[raw].iter().step_by(places));
     });
     buffer[end..end.next_multiple_of(128)].fill(0);
     Ok(())
 }
 
 #[inline(never)]
-pub fn unpack_weights(layout: &Weights, buffer: &[u8], elements: &mut [i16]) -> Answer<()> {
-    weights::admitted(*layout, elements.len(), buffer.len())?;
-    let places = (layout.rows * layout.columns) as usize;
+pub fn unpack_weights(layout: Weights, buffer: &[u8], elements: &mut [i16]) -> Answer<()> {
+    weights::admitted(layout, elements.len(), buffer.len())?;
     let bytes = element_bytes(layout.precision);
-    walk(layout, |at, raw, block| {
-        let kernel = &mut elements[raw..raw + (block - 1) * places + 1];
-        let from = &buffer[at..at + block * bytes];
-        let mut i = 0;
-        if bytes == 1 {
-            for &byte in from {
-                kernel[i] = i16::from(byte as i8);
-                i += places;
-            }
-        } else {
-            for pair in from.chunks_exact(2) {
-                kernel[i] = i16::from_le_bytes([pair[0], pair[1]]);
-                i += places;
-            }
-        }
+    walk_surface(layout, |block, raw, places| {
+        read(bytes, buffer[block].chunks(bytes), 0, elements[raw].iter_mut().step_by(places));
     });
     Ok(())
 }
