@@ -1,6 +1,7 @@
 //! Packs a file of cells into a file of bytes for any frame or weights, and back. `USAGE` says how.
 
-use olsketina::{Answer, Layout, Refusal, Weights};
+use olsketina::{Answer, Layout, Weights};
+use std::fmt::Display;
 use std::{env, fs, process};
 
 const USAGE: &str = "\
@@ -14,40 +15,6 @@ as many bytes as are needed, 0 where the packing leaves them; or, with OVER, the
 writes CELLS. PRECISION is 0 (int8), 1 (int16) or 2 (fp16). A refusal is printed with its number and sentence, and nothing is written.
 Ends with 0 where it was done, 1 where it was refused or a file failed, 2 where it was not called so.";
 
-/// A setting of either kind.
-enum Setting {
-    Frame(Layout),
-    Weights(Weights),
-}
-
-impl Setting {
-    /// How many cells and bytes there are.
-    fn sizes(&self) -> Answer<(u64, u64)> {
-        match *self {
-            Setting::Frame(layout) => {
-                let extent = layout.extent()?;
-                let sizes = [layout.width, layout.height, layout.channels].map(u64::from);
-                Ok((sizes.iter().product(), u64::from(layout.start) + extent))
-            }
-            Setting::Weights(weights) => Ok((weights.count()?, weights.extent()?)),
-        }
-    }
-
-    fn pack(&self, cells: &[i16], bytes: &mut [u8]) -> Answer<()> {
-        match self {
-            Setting::Frame(layout) => layout.pack(cells, bytes),
-            Setting::Weights(weights) => weights.pack(cells, bytes),
-        }
-    }
-
-    fn unpack(&self, bytes: &[u8], cells: &mut [i16]) -> Answer<()> {
-        match self {
-            Setting::Frame(layout) => layout.unpack(bytes, cells),
-            Setting::Weights(weights) => weights.unpack(bytes, cells),
-        }
-    }
-}
-
 /// What is printed where the work was not done, and the status.
 struct Failure(String, i32);
 
@@ -55,56 +22,71 @@ fn usage() -> Failure {
     Failure(USAGE.to_string(), 2)
 }
 
-fn refused(refusal: Refusal) -> Failure {
-    Failure(format!("cells: {refusal}"), 1)
+fn failed(why: impl Display) -> Failure {
+    Failure(format!("cells: {why}"), 1)
 }
 
 fn read(name: &str) -> Result<Vec<u8>, Failure> {
-    fs::read(name).map_err(|error| Failure(format!("cells: {name}: {error}"), 1))
-}
-
-fn write(name: &str, bytes: Vec<u8>) -> Result<(), Failure> {
-    fs::write(name, bytes).map_err(|error| Failure(format!("cells: {name}: {error}"), 1))
+    fs::read(name).map_err(|error| failed(format!("{name}: {error}")))
 }
 
 /// So many zeros.
 fn zeros<T: Copy + Default>(count: u64) -> Result<Vec<T>, Failure> {
     let mut all = Vec::new();
     let count = usize::try_from(count).unwrap_or(usize::MAX);
-    all.try_reserve_exact(count).map_err(|_| Failure(format!("cells: no memory for {count} cells or bytes"), 1))?;
+    all.try_reserve_exact(count).map_err(|_| failed(format!("no memory for {count} cells or bytes")))?;
     all.resize(count, T::default());
     Ok(all)
 }
 
-fn numbers<const N: usize>(words: &[String]) -> Result<([u32; N], &[String]), Failure> {
+/// A setting of so many words, and the words after it.
+fn setting<S: From<[u32; N]>, const N: usize>(words: &[String]) -> Result<(S, &[String]), Failure> {
     let (first, rest) = words.split_at_checked(N).ok_or_else(usage)?;
     let parsed: Vec<u32> = first.iter().filter_map(|word| word.parse().ok()).collect();
-    Ok((parsed.try_into().map_err(|_| usage())?, rest))
+    let words: [u32; N] = parsed.try_into().map_err(|_| usage())?;
+    Ok((words.into(), rest))
+}
+
+/// Packs or unpacks files by the functions of a setting that has so many cells and bytes.
+fn convey<S>(
+    way: &str, files: &[String], setting: S, sizes: Answer<(u64, u64)>, pack: fn(S, &[i16], &mut [u8]) -> Answer<()>,
+    unpack: fn(S, &[u8], &mut [i16]) -> Answer<()>,
+) -> Result<(), Failure> {
+    let (count, length) = sizes.map_err(failed)?;
+    let (to, made) = match (way, files) {
+        ("pack", [from, to, over @ ..]) if over.len() <= 1 => {
+            let bytes = read(from)?;
+            if bytes.len() % 2 != 0 {
+                return Err(failed(format!("{from}: {} bytes are no whole cells", bytes.len())));
+            }
+            let cells: Vec<i16> = bytes.chunks_exact(2).map(|pair| i16::from_le_bytes([pair[0], pair[1]])).collect();
+            let mut packed = if let [over] = over { read(over)? } else { zeros(length)? };
+            pack(setting, &cells, &mut packed).map_err(failed)?;
+            (to, packed)
+        }
+        ("unpack", [from, to]) => {
+            let mut cells: Vec<i16> = zeros(count)?;
+            unpack(setting, &read(from)?, &mut cells).map_err(failed)?;
+            (to, cells.into_iter().flat_map(i16::to_le_bytes).collect())
+        }
+        _ => return Err(usage()),
+    };
+    fs::write(to, made).map_err(|error| failed(format!("{to}: {error}")))
 }
 
 fn run(words: &[String]) -> Result<(), Failure> {
     let [way, kind, rest @ ..] = words else { return Err(usage()) };
-    let (setting, files) = match kind.as_str() {
-        "frame" => numbers::<7>(rest).map(|(words, files)| (Setting::Frame(words.into()), files))?,
-        "weights" => numbers::<5>(rest).map(|(words, files)| (Setting::Weights(words.into()), files))?,
-        _ => return Err(usage()),
-    };
-    let (count, length) = setting.sizes().map_err(refused)?;
-    match (way.as_str(), files) {
-        ("pack", [from, to, over @ ..]) if over.len() <= 1 => {
-            let bytes = read(from)?;
-            if bytes.len() % 2 != 0 {
-                return Err(Failure(format!("cells: {from}: {} bytes are no whole cells", bytes.len()), 1));
-            }
-            let cells: Vec<i16> = bytes.chunks_exact(2).map(|pair| i16::from_le_bytes([pair[0], pair[1]])).collect();
-            let mut packed = if let [over] = over { read(over)? } else { zeros(length)? };
-            setting.pack(&cells, &mut packed).map_err(refused)?;
-            write(to, packed)
+    match kind.as_str() {
+        "frame" => {
+            let (layout, files) = setting::<Layout, 7>(rest)?;
+            let cells = || [layout.width, layout.height, layout.channels].into_iter().map(u64::from).product();
+            let sizes = layout.extent().map(|extent| (cells(), u64::from(layout.start) + extent));
+            convey(way, files, layout, sizes, Layout::pack, Layout::unpack)
         }
-        ("unpack", [from, to]) => {
-            let mut cells: Vec<i16> = zeros(count)?;
-            setting.unpack(&read(from)?, &mut cells).map_err(refused)?;
-            write(to, cells.into_iter().flat_map(i16::to_le_bytes).collect())
+        "weights" => {
+            let (weights, files) = setting::<Weights, 5>(rest)?;
+            let sizes = weights.count().and_then(|count| Ok((count, weights.extent()?)));
+            convey(way, files, weights, sizes, Weights::pack, Weights::unpack)
         }
         _ => Err(usage()),
     }
