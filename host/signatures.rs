@@ -1,6 +1,7 @@
 //! What the Rattle sources export: functions and constants, read from their text. The Rust declarations (build.rs) and the header's check
 //! (tests/header.rs) are both made from it.
 
+use std::collections::BTreeMap;
 use std::fs;
 use std::path::{Path, PathBuf};
 
@@ -36,14 +37,19 @@ pub struct Exports {
     pub constants: Vec<(String, String)>,
 }
 
+/// What a folder has, by name; nothing where it is missing.
+fn entries(folder: &Path) -> Vec<PathBuf> {
+    let entries = fs::read_dir(folder).into_iter().flatten();
+    let mut paths: Vec<PathBuf> = entries.map(|entry| entry.expect("a readable entry").path()).collect();
+    paths.sort();
+    paths
+}
+
 /// The folders of the crates that are built for C, below the repository's folder.
 pub fn crates(repository: &Path) -> Vec<PathBuf> {
-    let entries = fs::read_dir(repository.join("crates")).expect("the repository has a folder crates");
-    let paths = entries.map(|entry| entry.expect("a readable entry").path());
-    let mut named: Vec<PathBuf> = paths.filter(|path| name_of(path).starts_with("olsketina")).collect();
-    named.retain(|path| !exports_of(path).functions.is_empty());
-    named.sort();
-    named
+    let mut paths = entries(&repository.join("crates"));
+    paths.retain(|path| name_of(path).starts_with("olsketina") && !exports_of(path).functions.is_empty());
+    paths
 }
 
 pub fn name_of(path: &Path) -> String {
@@ -53,10 +59,7 @@ pub fn name_of(path: &Path) -> String {
 /// The exports of the sources in a crate's folder.
 pub fn exports_of(folder: &Path) -> Exports {
     let mut exports = Exports::default();
-    let Ok(entries) = fs::read_dir(folder.join("src")) else { return exports };
-    let mut files: Vec<PathBuf> = entries.map(|entry| entry.expect("a readable entry").path()).collect();
-    files.sort();
-    for file in files.iter().filter(|file| file.extension().is_some_and(|extension| extension == "rt")) {
+    for file in entries(&folder.join("src")).iter().filter(|file| name_of(file).ends_with(".rt")) {
         read(&fs::read_to_string(file).expect("a source is text"), &mut exports);
     }
     exports
@@ -93,20 +96,15 @@ fn function(text: &str) -> Function {
 
 fn parameter(text: &str) -> Parameter {
     let (name, kind) = text.split_once(':').expect("a parameter has a type");
-    let (name, kind) = (name.trim().to_string(), kind.trim());
-    let Some(lent) = kind.strip_prefix('&') else {
-        return Parameter { name, shape: Shape::Value, mutable: false, number: kind.to_string() };
+    let kind = kind.trim();
+    let lent = kind.strip_prefix('&').map(|lent| lent.trim_start_matches("mut ").trim());
+    let inside = lent.and_then(|lent| lent.strip_prefix('[')?.strip_suffix(']'));
+    let (number, shape) = match inside.map(|inside| inside.split_once(';').ok_or(inside)) {
+        Some(Ok((number, length))) => (number, Shape::Array(length.trim().to_string())),
+        Some(Err(number)) => (number, Shape::Slice),
+        None => lent.map_or((kind, Shape::Value), |number| (number, Shape::One)),
     };
-    let mutable = lent.starts_with("mut ");
-    let lent = lent.trim_start_matches("mut ").trim();
-    let Some(inside) = lent.strip_prefix('[').and_then(|lent| lent.strip_suffix(']')) else {
-        return Parameter { name, shape: Shape::One, mutable, number: lent.to_string() };
-    };
-    let (number, shape) = match inside.split_once(';') {
-        Some((number, length)) => (number, Shape::Array(length.trim().to_string())),
-        None => (inside, Shape::Slice),
-    };
-    Parameter { name, shape, mutable, number: number.trim().to_string() }
+    Parameter { name: name.trim().to_string(), shape, mutable: kind.starts_with("&mut "), number: number.trim().to_string() }
 }
 
 impl Parameter {
@@ -125,14 +123,9 @@ impl Parameter {
 
 /// The Rust declarations; in the archive the functions' names begin with `prefix`.
 pub fn declarations(exports: &[Exports], prefix: &str) -> String {
-    let mut text = String::new();
-    let mut seen: Vec<&str> = Vec::new();
-    for (name, value) in exports.iter().flat_map(|exports| &exports.constants) {
-        if !seen.contains(&name.as_str()) {
-            seen.push(name);
-            text += &format!("#[allow(dead_code)]\npub const {name}: usize = {value};\n");
-        }
-    }
+    let constants: BTreeMap<_, _> = exports.iter().flat_map(|exports| &exports.constants).cloned().collect();
+    let declared = constants.iter().map(|(name, value)| format!("#[allow(dead_code)]\npub const {name}: usize = {value};\n"));
+    let mut text: String = declared.collect();
     text += "extern \"C\" {\n";
     for function in exports.iter().flat_map(|exports| &exports.functions) {
         let parameters: Vec<String> = function.parameters.iter().map(Parameter::rust).collect();
