@@ -1,6 +1,6 @@
 //! Feature cubes and the regions of one cube.
 
-use crate::{answered, raw, valued, words, Answer};
+use crate::{answered, lent, raw, valued, words, Answer};
 
 words! {
     /// A cube's layout (the scope paper's frame): sizes, precision code, then line stride, surface stride and start in bytes.
@@ -34,14 +34,12 @@ impl Layout {
 
     /// Packs a raw tensor: each atom is written whole, its padding as 0; every other byte stays.
     pub fn pack(self, elements: &[i16], buffer: &mut [u8]) -> Answer<()> {
-        let (from, to) = (elements.as_ptr(), buffer.as_mut_ptr());
-        answered(|fault| unsafe { raw::olsketina_cube_pack(&self.into(), from, elements.len(), to, buffer.len(), fault) })
+        lent(elements, buffer, |from, m, to, n, fault| unsafe { raw::olsketina_cube_pack(&self.into(), from, m, to, n, fault) })
     }
 
     /// Reads a packed cube back into raw order.
     pub fn unpack(self, buffer: &[u8], elements: &mut [i16]) -> Answer<()> {
-        let (from, to) = (buffer.as_ptr(), elements.as_mut_ptr());
-        answered(|fault| unsafe { raw::olsketina_cube_unpack(&self.into(), from, buffer.len(), to, elements.len(), fault) })
+        lent(buffer, elements, |from, m, to, n, fault| unsafe { raw::olsketina_cube_unpack(&self.into(), from, m, to, n, fault) })
     }
 }
 
@@ -75,8 +73,7 @@ impl Table {
 
     #[must_use]
     pub fn layout(&self) -> Layout {
-        let words: [u32; 7] = std::array::from_fn(|at| self.words[at]);
-        words.into()
+        Layout::from(std::array::from_fn(|at| self.words[at]))
     }
 
     /// The region in a slot, where there is one.
@@ -89,24 +86,19 @@ impl Table {
     /// Places a region in an empty slot.
     pub fn place(&mut self, slot: u32, region: Region) -> Answer<()> {
         let Region { column, row, columns, rows } = region;
-        let words = &mut self.words;
-        answered(|fault| unsafe { raw::olsketina_regions_place(words, slot, column, row, columns, rows, fault) })
+        answered(|fault| unsafe { raw::olsketina_regions_place(&mut self.words, slot, column, row, columns, rows, fault) })
     }
 
     /// Writes the elements of a box, counted from the corner of the region in a slot, and no other byte.
     pub fn edit(&self, slot: u32, part: ElementBox, elements: &[i16], buffer: &mut [u8]) -> Answer<()> {
-        let (from, to) = (elements.as_ptr(), buffer.as_mut_ptr());
-        answered(|fault| unsafe {
-            raw::olsketina_regions_edit(&self.words, slot, &part.into(), from, elements.len(), to, buffer.len(), fault)
-        })
+        let (table, part) = (&self.words, part.into());
+        lent(elements, buffer, |from, m, to, n, fault| unsafe { raw::olsketina_regions_edit(table, slot, &part, from, m, to, n, fault) })
     }
 
     /// Reads the elements of a box, counted from the corner of the region in a slot.
     pub fn read(&self, slot: u32, part: ElementBox, buffer: &[u8], elements: &mut [i16]) -> Answer<()> {
-        let (from, to) = (buffer.as_ptr(), elements.as_mut_ptr());
-        answered(|fault| unsafe {
-            raw::olsketina_regions_read(&self.words, slot, &part.into(), from, buffer.len(), to, elements.len(), fault)
-        })
+        let (table, part) = (&self.words, part.into());
+        lent(buffer, elements, |from, m, to, n, fault| unsafe { raw::olsketina_regions_read(table, slot, &part, from, m, to, n, fault) })
     }
 
     /// The byte at which an element begins, counted from the corner of the region in a slot.

@@ -107,11 +107,8 @@ refusals! {
 
 impl std::fmt::Display for Refusal {
     fn fmt(&self, f: &mut std::fmt::Formatter) -> std::fmt::Result {
-        write!(f, "refused, {}: {}", self.number, self.sentence())?;
-        if self.number == Refusal::INT8_RANGE {
-            write!(f, " (index {})", self.fault)?;
-        }
-        Ok(())
+        let index = if self.number == Refusal::INT8_RANGE { format!(" (index {})", self.fault) } else { String::new() };
+        write!(f, "refused, {}: {}{index}", self.number, self.sentence())
     }
 }
 
@@ -120,13 +117,14 @@ impl std::error::Error for Refusal {}
 /// Makes a call that stores the index at fault; before it there stands a number that no call stores.
 fn answered(call: impl FnOnce(&mut usize) -> u32) -> Answer<()> {
     let mut fault = usize::MAX;
-    match call(&mut fault) {
-        0 => {
-            debug_assert_eq!(fault, 0, "an accepted call has no index at fault");
-            Ok(())
-        }
-        number => Err(Refusal { number, fault }),
-    }
+    let number = call(&mut fault);
+    debug_assert!(number != 0 || fault == 0, "an accepted call has no index at fault");
+    (number == 0).then_some(()).ok_or(Refusal { number, fault })
+}
+
+/// The same of a call that lends a slice for reading and one for writing, each as pointer and length.
+fn lent<I, O>(from: &[I], to: &mut [O], call: impl FnOnce(*const I, usize, *mut O, usize, &mut usize) -> u32) -> Answer<()> {
+    answered(|fault| call(from.as_ptr(), from.len(), to.as_mut_ptr(), to.len(), fault))
 }
 
 /// The same of a call that also stores a value; a refused one leaves what stood there.

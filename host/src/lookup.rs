@@ -1,6 +1,6 @@
 //! The two-table lookup, and the camera curve.
 
-use crate::{answered, raw, Answer};
+use crate::{lent, raw, valued, Answer};
 
 /// How the X table is spaced.
 #[derive(Clone, Copy, Debug, PartialEq, Eq)]
@@ -47,37 +47,28 @@ impl Lookup {
             Mode::Linear => raw::olsketina_lut_run_linear,
             Mode::Exponential => raw::olsketina_lut_run_exponential,
         };
-        let Lookup { x, y, .. } = self;
+        let Lookup { x, y, priority, overflow, underflow, .. } = *self;
         let slopes = [x.below, x.above, y.below, y.above];
         let [x, y] = [x, y].map(|table| [table.select, table.start, table.end]);
         let (scales, shifts) = (slopes.map(|slope| slope.scale), slopes.map(|slope| slope.shift));
-        #[rustfmt::skip]
-        let call = |fault: &mut usize| unsafe {
-            run(&x, &y, &scales, &shifts, self.priority, self.overflow, self.underflow,
-                x_entries.as_ptr(), x_entries.len(), y_entries.as_ptr(), y_entries.len(),
-                samples.as_ptr(), samples.len(), outputs.as_mut_ptr(), outputs.len(), counters, fault)
-        };
-        answered(call)
+        let (xs, x_len, ys, y_len) = (x_entries.as_ptr(), x_entries.len(), y_entries.as_ptr(), y_entries.len());
+        lent(samples, outputs, |from, m, to, n, fault| unsafe {
+            run(&x, &y, &scales, &shifts, priority, overflow, underflow, xs, x_len, ys, y_len, from, m, to, n, counters, fault)
+        })
     }
 
     /// The ready-made settings for the camera curve; the choices are Priority, OverflowPriority and UnderflowPriority.
     pub fn ready_made(select: i32, choices: [Choice; 3]) -> Answer<Lookup> {
         let before = ([i32::MIN; 3], [i32::MIN; 3], [i16::MIN; 4], [i32::MIN; 4], [u32::MAX; 3]);
-        let mut made = before;
         let [priority, overflow, underflow] = choices.map(|choice| choice.0);
-        let (x, y, scales, shifts, bits) = &mut made;
-        let answer = answered(|fault| unsafe {
+        let (x, y, scales, shifts, bits) = valued(before, |(x, y, scales, shifts, bits), fault| unsafe {
             raw::olsketina_camera_ready_made(select, priority, overflow, underflow, x, y, scales, shifts, bits, fault)
-        });
-        debug_assert!(answer.is_ok() || made == before, "a refused call leaves the settings");
-        answer.map(|()| {
-            let (x, y, scales, shifts, bits) = made;
-            debug_assert!(bits.iter().all(|&bit| bit <= 1));
-            let slope = |at: usize| Slope { scale: scales[at], shift: shifts[at] };
-            let table = |[select, start, end]: [i32; 3], at| TableSettings { select, start, end, below: slope(at), above: slope(at + 1) };
-            let [priority, overflow, underflow] = bits.map(|bit| bit != 0);
-            Lookup { mode: Mode::Linear, x: table(x, 0), y: table(y, 2), priority, overflow, underflow }
-        })
+        })?;
+        debug_assert!(bits.iter().all(|&bit| bit <= 1));
+        let slope = |at: usize| Slope { scale: scales[at], shift: shifts[at] };
+        let table = |[select, start, end]: [i32; 3], at| TableSettings { select, start, end, below: slope(at), above: slope(at + 1) };
+        let [priority, overflow, underflow] = bits.map(|bit| bit != 0);
+        Ok(Lookup { mode: Mode::Linear, x: table(x, 0), y: table(y, 2), priority, overflow, underflow })
     }
 }
 

@@ -1,6 +1,6 @@
 //! Direct-convolution weights, pixel images, integer conversion.
 
-use crate::{answered, raw, valued, words, Answer};
+use crate::{answered, lent, raw, valued, words, Answer};
 
 words! {
     /// A weight tensor's sizes and precision code.
@@ -32,14 +32,12 @@ impl Weights {
 
     /// Packs raw weights, filled with 0 to a multiple of 128 bytes; later bytes stay.
     pub fn pack(self, elements: &[i16], buffer: &mut [u8]) -> Answer<()> {
-        let (from, to) = (elements.as_ptr(), buffer.as_mut_ptr());
-        answered(|fault| unsafe { raw::olsketina_weights_pack(&self.into(), from, elements.len(), to, buffer.len(), fault) })
+        lent(elements, buffer, |from, m, to, n, fault| unsafe { raw::olsketina_weights_pack(&self.into(), from, m, to, n, fault) })
     }
 
     /// Reads packed weights back into raw order.
     pub fn unpack(self, buffer: &[u8], elements: &mut [i16]) -> Answer<()> {
-        let (from, to) = (buffer.as_ptr(), elements.as_mut_ptr());
-        answered(|fault| unsafe { raw::olsketina_weights_unpack(&self.into(), from, buffer.len(), to, elements.len(), fault) })
+        lent(buffer, elements, |from, m, to, n, fault| unsafe { raw::olsketina_weights_unpack(&self.into(), from, m, to, n, fault) })
     }
 }
 

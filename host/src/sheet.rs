@@ -20,22 +20,15 @@ pub struct Row {
 impl Row {
     fn from_words(words: [u64; 5]) -> Option<Row> {
         let [ended, line, number, fault, value] = words;
-        if ended == 0 {
-            debug_assert_eq!(words, [0; 5], "no line ended");
-            return None;
-        }
-        debug_assert!(ended == 1 && (if number == 0 { fault == 0 } else { value == 0 }));
-        let refusal = Refusal { number: number as u32, fault: fault as usize };
-        Some(Row { line, answer: if number == 0 { Ok(value) } else { Err(refusal) } })
+        debug_assert!(words == [0; 5] || ended == 1 && (if number == 0 { fault } else { value }) == 0, "no line ended, or one");
+        let answer = if number == 0 { Ok(value) } else { Err(Refusal { number: number as u32, fault: fault as usize }) };
+        (ended != 0).then_some(Row { line, answer })
     }
 
     /// What a sheet prints of it.
     #[must_use]
     pub fn text(&self) -> Vec<u8> {
-        let (number, value) = match self.answer {
-            Ok(value) => (0, value),
-            Err(refusal) => (refusal.number, 0),
-        };
+        let (number, value) = self.answer.map_or_else(|refusal| (refusal.number, 0), |value| (0, value));
         printed(|text| unsafe { raw::olsketina_script_row_text(self.line, number, value, text) })
     }
 }
@@ -65,8 +58,7 @@ impl Sheet {
     #[must_use]
     pub fn feed(&mut self, part: &[u8]) -> (usize, Option<Row>) {
         let mut row = [u64::MAX; 5];
-        let Sheet { state, text } = self;
-        let read = unsafe { raw::olsketina_script_feed(state, text, part.as_ptr(), part.len(), &mut row) };
+        let read = unsafe { raw::olsketina_script_feed(&mut self.state, &mut self.text, part.as_ptr(), part.len(), &mut row) };
         (read, Row::from_words(row))
     }
 
