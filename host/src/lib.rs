@@ -77,33 +77,8 @@ macro_rules! refusals {
         }
     };
 }
-
-refusals! {
-    SIZE = 1, "a size is out of its range";
-    PRECISION = 2, "the precision code is unknown, or is not taken here";
-    CUBE_STRIDES = 3, "the line or surface stride of the cube does not fit its sizes, or is no multiple of 32";
-    CUBE_START = 4, "the start of the cube is no multiple of 32";
-    BUFFER_LENGTH = 5, "the buffer or the file is too short";
-    ELEMENT_COUNT = 6, "the number of elements is not exactly the one that is needed";
-    INT8_RANGE = 7, "an int8 element is outside -128 to 127";
-    SLOT = 8, "the slot is above 15, not placed, or already placed";
-    BOUNDS = 9, "the box or the element is empty or outside";
-    OVERLAP = 10, "the region overlaps one that is placed";
-    TABLE_LENGTH = 11, "the X table has not 65 entries, or the Y table not 257";
-    X_SELECT = 12, "the select or offset of the X table is out of its range";
-    X_END = 13, "the end of the X table is not the one that its start and select give";
-    Y_SELECT = 14, "the select of the Y table, or of the ready-made settings, is out of its range";
-    Y_END = 15, "the end of the Y table is not the one that its start and select give";
-    SHIFT = 16, "a shift is out of its range";
-    COUNTERS = 17, "the counters and the new samples together are above 4294967295";
-    OUTPUT_LENGTH = 18, "the outputs or the report have not the number of places that is needed";
-    PIXEL_FORMAT = 19, "the pixel format code is unknown";
-    PIXEL_KIND = 20, "channels or precision are not those of the pixel format";
-    X_OFFSET = 21, "the X offset is out of the range of the pixel format";
-    PIXEL_STRIDES = 22, "the start or line stride of the image is no multiple of 32, or the line is too short";
-    PIXEL_OUTSIDE = 23, "the pixel is outside the image";
-    SCRIPT_LINE = 24, "a line cannot be read as a record, or a file cannot be opened, read or written";
-}
+// Names, numbers and sentences are those of include/olsketina.h (build.rs).
+include!(concat!(env!("OUT_DIR"), "/refusals.rs"));
 
 impl std::fmt::Display for Refusal {
     fn fmt(&self, f: &mut std::fmt::Formatter) -> std::fmt::Result {
