@@ -71,13 +71,9 @@ pub fn read(source: &str, exports: &mut Exports) {
     for rest in text.split("pub extern \"C\" fn ").skip(1) {
         exports.functions.push(function(rest));
     }
-    for line in text.lines() {
-        let line = line.trim_start();
-        let after = line.strip_prefix("pub const ").or(line.strip_prefix("pub(crate) const ")).or(line.strip_prefix("const "));
-        if let Some((name, value)) = after.and_then(|after| after.split_once(':')) {
-            let value = value.split_once('=').map_or("", |(_, value)| value).trim().trim_end_matches(';');
-            exports.constants.push((name.trim().to_string(), value.to_string()));
-        }
+    for (name, rest) in text.split("const ").skip(1).filter_map(|rest| rest.split_once(':')) {
+        let value = rest.split_once('=').and_then(|(_, value)| value.split(';').next()).unwrap_or("");
+        exports.constants.push((name.trim().to_string(), value.trim().to_string()));
     }
 }
 
@@ -85,12 +81,11 @@ pub fn read(source: &str, exports: &mut Exports) {
 fn function(text: &str) -> Function {
     let (name, rest) = text.split_once('(').expect("a function has parameters");
     let (parameters, rest) = rest.split_once(')').expect("the parameters end");
-    let head: String = rest.split('{').next().unwrap_or("").replace("ensures", "requires");
-    let result = head.split("requires").next().and_then(|head| head.trim().strip_prefix("->"));
+    let result = rest.trim_start().strip_prefix("->").and_then(|rest| rest.split_whitespace().next());
     Function {
         name: name.trim().to_string(),
         parameters: parameters.split(',').filter(|text| !text.trim().is_empty()).map(parameter).collect(),
-        result: result.map(|result| result.trim().to_string()),
+        result: result.map(str::to_string),
     }
 }
 
@@ -124,14 +119,12 @@ impl Parameter {
 /// The Rust declarations; in the archive the functions' names begin with `prefix`.
 pub fn declarations(exports: &[Exports], prefix: &str) -> String {
     let constants: BTreeMap<_, _> = exports.iter().flat_map(|exports| &exports.constants).cloned().collect();
-    let declared = constants.iter().map(|(name, value)| format!("#[allow(dead_code)]\npub const {name}: usize = {value};\n"));
-    let mut text: String = declared.collect();
-    text += "extern \"C\" {\n";
-    for function in exports.iter().flat_map(|exports| &exports.functions) {
-        let parameters: Vec<String> = function.parameters.iter().map(Parameter::rust).collect();
-        let result = function.result.as_ref().map_or(String::new(), |result| format!(" -> {result}"));
-        let name = &function.name;
-        text += &format!("    #[link_name = \"{prefix}{name}\"]\n    pub fn {name}({}){result};\n", parameters.join(", "));
-    }
-    text + "}\n"
+    let constant = |(name, value)| format!("#[allow(dead_code)]\npub const {name}: usize = {value};\n");
+    let function = |Function { name, parameters, result }: &Function| {
+        let parameters: Vec<String> = parameters.iter().map(Parameter::rust).collect();
+        let result = result.as_ref().map_or(String::new(), |result| format!(" -> {result}"));
+        format!("    #[link_name = \"{prefix}{name}\"]\n    pub fn {name}({}){result};\n", parameters.join(", "))
+    };
+    let functions: String = exports.iter().flat_map(|exports| &exports.functions).map(function).collect();
+    format!("{}extern \"C\" {{\n{functions}}}\n", constants.iter().map(constant).collect::<String>())
 }

@@ -11,10 +11,10 @@ fn element_bytes(precision: u32) -> usize {
     elements::bytes_of(precision.into()) as usize
 }
 
-/// Writes each element, of so many bytes, from byte `at` of its chunk on.
+/// Writes each element from byte `at` of its chunk on.
 #[inline(always)]
-fn write<'a>(bytes: usize, to: impl Iterator<Item = &'a mut [u8]>, at: usize, from: impl Iterator<Item = &'a i16>) {
-    if bytes == 1 {
+fn write<'a>(precision: u32, to: impl Iterator<Item = &'a mut [u8]>, at: usize, from: impl Iterator<Item = &'a i16>) {
+    if precision == 0 {
         to.zip(from).for_each(|(to, &v)| to[at] = v as u8);
     } else {
         to.zip(from).for_each(|(to, &v)| to[at..at + 2].copy_from_slice(&v.to_le_bytes()));
@@ -23,8 +23,8 @@ fn write<'a>(bytes: usize, to: impl Iterator<Item = &'a mut [u8]>, at: usize, fr
 
 /// Reads each element.
 #[inline(always)]
-fn read<'a>(bytes: usize, from: impl Iterator<Item = &'a [u8]>, at: usize, to: impl Iterator<Item = &'a mut i16>) {
-    if bytes == 1 {
+fn read<'a>(precision: u32, from: impl Iterator<Item = &'a [u8]>, at: usize, to: impl Iterator<Item = &'a mut i16>) {
+    if precision == 0 {
         from.zip(to).for_each(|(from, v)| *v = i16::from(from[at] as i8));
     } else {
         from.zip(to).for_each(|(from, v)| *v = i16::from_le_bytes([from[at], from[at + 1]]));
@@ -53,14 +53,13 @@ fn whole(layout: Layout) -> [[usize; 3]; 2] {
 /// Writes a box; where it begins an atom that the channels do not fill, it may clear it.
 fn write_box(layout: Layout, part: [[usize; 3]; 2], clear: bool, elements: &[i16], buffer: &mut [u8]) -> Answer<()> {
     elements::check_values(layout.precision, elements)?;
-    let bytes = element_bytes(layout.precision);
-    let all = layout.channels as usize * bytes;
+    let all = layout.channels as usize * element_bytes(layout.precision);
     walk_box(layout, part, |byte, atoms, raw| {
         let atoms = &mut buffer[atoms];
         if clear && byte % ATOM == 0 && all - byte < ATOM {
             atoms.fill(0);
         }
-        write(bytes, atoms.chunks_exact_mut(ATOM), byte % ATOM, elements[raw].iter());
+        write(layout.precision, atoms.chunks_exact_mut(ATOM), byte % ATOM, elements[raw].iter());
     });
     Ok(())
 }
@@ -80,16 +79,15 @@ pub fn edit(table: &Table, slot: u32, part: ElementBox, elements: &[i16], buffer
 #[inline(never)]
 pub fn unpack(layout: Layout, buffer: &[u8], elements: &mut [i16]) -> Answer<()> {
     cube::admitted(layout, elements.len(), buffer.len())?;
-    let bytes = element_bytes(layout.precision);
     walk_box(layout, whole(layout), |byte, atoms, raw| {
-        read(bytes, buffer[atoms].chunks_exact(ATOM), byte % ATOM, elements[raw].iter_mut());
+        read(layout.precision, buffer[atoms].chunks_exact(ATOM), byte % ATOM, elements[raw].iter_mut());
     });
     Ok(())
 }
 
-/// Goes in the order of the surface: group, block, position in the kernel, kernel. `run` gets the bytes of the block's channels and their
-/// elements, of which each `places`th is one of theirs. The answer is the byte after the last.
-fn walk_surface(layout: Weights, mut run: impl FnMut(Range<usize>, Range<usize>, usize)) -> usize {
+/// Goes in the order of the surface: group, block, position in the kernel, kernel. `run` gets the bytes of an element,
+/// those of the block's channels, and their elements, of which each `places`th is one of theirs. The answer is the byte after the last.
+fn walk_surface(layout: Weights, mut run: impl FnMut(usize, Range<usize>, Range<usize>, usize)) -> usize {
     let [kernels, channels] = [layout.kernels, layout.channels].map(|size| size as usize);
     let places = (layout.rows * layout.columns) as usize;
     let bytes = element_bytes(layout.precision);
@@ -101,7 +99,7 @@ fn walk_surface(layout: Weights, mut run: impl FnMut(Range<usize>, Range<usize>,
             for place in 0..places {
                 for k in k0..kernels.min(k0 + group) {
                     let raw = (k * channels + c0) * places + place;
-                    run(at..at + block * bytes, raw..raw + (block - 1) * places + 1, places);
+                    run(bytes, at..at + block * bytes, raw..raw + (block - 1) * places + 1, places);
                     at += block * bytes;
                 }
             }
@@ -114,9 +112,8 @@ fn walk_surface(layout: Weights, mut run: impl FnMut(Range<usize>, Range<usize>,
 pub fn pack_weights(layout: Weights, elements: &[i16], buffer: &mut [u8]) -> Answer<()> {
     weights::admitted(layout, elements.len(), buffer.len())?;
     elements::check_values(layout.precision, elements)?;
-    let bytes = element_bytes(layout.precision);
-    let end = walk_surface(layout, |block, raw, places| {
-        write(bytes, buffer[block].chunks_mut(bytes), 0, elements[raw].iter().step_by(places));
+    let end = walk_surface(layout, |bytes, block, raw, places| {
+        write(layout.precision, buffer[block].chunks_mut(bytes), 0, elements[raw].iter().step_by(places));
     });
     buffer[end..end.next_multiple_of(128)].fill(0);
     Ok(())
@@ -125,9 +122,8 @@ pub fn pack_weights(layout: Weights, elements: &[i16], buffer: &mut [u8]) -> Ans
 #[inline(never)]
 pub fn unpack_weights(layout: Weights, buffer: &[u8], elements: &mut [i16]) -> Answer<()> {
     weights::admitted(layout, elements.len(), buffer.len())?;
-    let bytes = element_bytes(layout.precision);
-    walk_surface(layout, |block, raw, places| {
-        read(bytes, buffer[block].chunks(bytes), 0, elements[raw].iter_mut().step_by(places));
+    walk_surface(layout, |bytes, block, raw, places| {
+        read(layout.precision, buffer[block].chunks(bytes), 0, elements[raw].iter_mut().step_by(places));
     });
     Ok(())
 }

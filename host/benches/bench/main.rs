@@ -37,7 +37,7 @@ type Times = [f64; 2];
 
 /// Of runs, each with the nanoseconds of the thread and those that passed. Where a run is interrupted, the thread's clock may miss some
 /// microseconds of it: such runs do not count, unless they are more than half.
-fn times(runs: Vec<[f64; 2]>) -> Times {
+fn times(runs: &[[f64; 2]]) -> Times {
     let whole = |[thread, passed]: &[f64; 2]| *passed <= 1.05 * thread;
     let few = 2 * runs.iter().filter(|run| whole(run)).count() < runs.len();
     let mut times: Vec<f64> = runs.iter().filter(|run| few || whole(run)).map(|run| run[0]).collect();
@@ -89,19 +89,17 @@ fn interleave(repetitions: usize, before: &[Step], contenders: &mut [Contender; 
     // What reading the clock adds to a measured time.
     let cost = (0..1000).map(|_| -thread_time() + thread_time()).fold(f64::MAX, f64::min);
     let mut runs = [const { Vec::new() }; 3];
-    for repetition in 0..WARM_UP + repetitions {
+    for _ in 0..WARM_UP + repetitions {
         for (contender, runs) in contenders.iter_mut().zip(&mut runs) {
             before.iter().for_each(|&step| contender(step));
             let (begun, begin) = (Instant::now(), thread_time());
             contender(Step::Run);
             let thread = thread_time() - begin - cost;
             let passed = begun.elapsed().as_nanos() as f64 - 2.0 * cost;
-            if repetition >= WARM_UP {
-                runs.push([thread, passed]);
-            }
+            runs.push([thread, passed]);
         }
     }
-    runs.map(times)
+    runs.map(|runs| times(&runs[WARM_UP..]))
 }
 
 struct Row {
@@ -135,16 +133,12 @@ fn measure<I: Copy, O: Copy + Default + PartialEq>(
     assert!(results[0] == results[1], "{name}: the library differs from the Rust loop");
     let half = (size_of_val(input) + written.iter().map(Range::len).sum::<usize>() * size_of::<O>()) / 2;
     let all = 0..half;
-    let copy = |source: &[u8], target: &mut [u8]| {
+    let [ours, plain] = calls.map(|call| contender(input, output, written, call));
+    let copy = contender(&vec![1; half], &vec![2; half], from_ref(&all), |source: &[u8], target: &mut [u8]| {
         target.copy_from_slice(source);
         Ok([0; 5])
-    };
-    let [ours, plain] = calls;
-    let mut contenders = [
-        contender(input, output, written, ours),
-        contender(input, output, written, plain),
-        contender(&vec![1; half], &vec![2; half], from_ref(&all), copy),
-    ];
+    });
+    let mut contenders = [ours, plain, copy];
     let before: [&[Step]; 3] = [&[], &[Step::Clear], &[Step::Run; 3]];
     let times = before.map(|steps| interleave(repetitions, steps, &mut contenders));
     Row { name: name.to_string(), cells, kinds: results[0].0, times, bar: None }
@@ -163,7 +157,8 @@ fn packed<S>(setting: S, precision: u32, cells: usize, bytes: usize) -> Packed<S
     (setting, Generator::new(SEED).elements(precision, cells), Generator::new(SEED).bytes(bytes))
 }
 
-fn cube(width: u32, height: u32, channels: u32, precision: u32) -> Packed<Layout> {
+/// Width, height, channels, precision.
+fn cube([width, height, channels, precision]: [u32; 4]) -> Packed<Layout> {
     let layout = draw::dense(width, height, channels, precision);
     packed(layout, precision, draw::element_count(layout), draw::buffer_length(layout))
 }
@@ -194,8 +189,9 @@ fn unpack<S: Copy>(name: &str, repetitions: usize, (setting, elements, bytes): P
 }
 
 /// A box of 64×64 over all channels, which fill their atoms, in a region of 128×128.
-fn edit(name: &str, (layout, elements, bytes): Packed<Layout>) -> Row {
+fn edit(name: &str, words: [u32; 4]) -> Row {
     const SLOT: u32 = 5;
+    let (layout, elements, bytes) = cube(words);
     let mut table = Table::empty(layout);
     table.place(SLOT, [96, 80, 128, 128].into()).expect("accepted");
     let part = [0, 24, 40, layout.channels, 64, 64].into();
@@ -222,7 +218,6 @@ fn lookup(name: &str, l: &Lookup, samples: &[i32], run: usize) -> Row {
     let [x, y] = [(SEED, 65), (SEED + 1, 257)].map(|(seed, count)| at_page(&Generator::new(seed).any_elements(count)));
     let (xs, ys) = (&x.0[x.1..], &y.0[y.1..]);
     let count = samples.len();
-    let cells = if run == count { count } else { count / run };
     let calls = [Lookup::run, loops::lookup].map(|call| {
         move |samples: &[i32], outputs: &mut [i32]| {
             let mut kinds = [0; 5];
@@ -230,7 +225,7 @@ fn lookup(name: &str, l: &Lookup, samples: &[i32], run: usize) -> Row {
             runs.try_for_each(|(from, to)| call(black_box(l), xs, ys, from, to, &mut kinds)).map(|()| kinds)
         }
     });
-    measure(name, 31, cells, samples, &vec![-1; count], from_ref(&(0..count)), calls)
+    measure(name, 31, if run == count { count } else { count / run }, samples, &vec![-1; count], from_ref(&(0..count)), calls)
 }
 
 // ---- the tables
@@ -272,35 +267,31 @@ fn main() {
     const ALL: usize = 1_000_000;
     const FEW: usize = 64_000;
     const LOW: i32 = -2048;
-    let large = || cube(640, 480, 32, 0);
-    let wide = || cube(1024, 64, 64, 1);
-    let [kernels, points] = [[256, 256, 3, 3, 0], [256, 256, 1, 1, 0]];
-    let pack_cube = |name, of| pack(name, 41, of, [Layout::pack, loops::pack]);
-    let unpack_cube = |name, of| unpack(name, 41, of, [Layout::unpack, loops::unpack]);
+    let pack_cube = |name, of| pack(name, 41, cube(of), [Layout::pack, loops::pack]);
+    let unpack_cube = |name, of| unpack(name, 41, cube(of), [Layout::unpack, loops::unpack]);
     let pack_weights = |name, words| pack(name, 1001, weights(words), [Weights::pack, loops::pack_weights]);
     let unpack_weights = |name, words| unpack(name, 1001, weights(words), [Weights::unpack, loops::unpack_weights]);
     let mut rows = vec![
-        pack_cube("pack 640×480×32 int8", large()).at_most(3.0, MEMCPY),
-        pack_cube("pack 640×480×12 int8", cube(640, 480, 12, 0)),
-        pack_cube("pack 640×480×4 int8", cube(640, 480, 4, 0)),
-        pack_cube("pack 640×480×3 int8", cube(640, 480, 3, 0)).at_most(2.2, MEMCPY),
-        pack_cube("pack 1024×64×64 int16", wide()).at_most(2.5, MEMCPY),
-        unpack_cube("unpack 640×480×32 int8", large()).at_most(3.0, MEMCPY),
-        unpack_cube("unpack 1024×64×64 int16", wide()),
-        edit("edit 64×64 over 32 channels int8", large()).at_most(6.0, MEMCPY),
-        edit("edit 64×64 over 32 channels int16", cube(640, 480, 32, 1)),
-        pack_weights("weights 256×256×3×3 int8", kernels).at_most(9.0, MEMCPY),
-        pack_weights("weights 256×256×1×1 int8", points),
-        unpack_weights("unpack weights 256×256×3×3 int8", kernels),
-        unpack_weights("unpack weights 256×256×1×1 int8", points),
+        pack_cube("pack 640×480×32 int8", [640, 480, 32, 0]).at_most(3.0, MEMCPY),
+        pack_cube("pack 640×480×12 int8", [640, 480, 12, 0]),
+        pack_cube("pack 640×480×4 int8", [640, 480, 4, 0]),
+        pack_cube("pack 640×480×3 int8", [640, 480, 3, 0]).at_most(2.2, MEMCPY),
+        pack_cube("pack 1024×64×64 int16", [1024, 64, 64, 1]).at_most(2.5, MEMCPY),
+        unpack_cube("unpack 640×480×32 int8", [640, 480, 32, 0]).at_most(3.0, MEMCPY),
+        unpack_cube("unpack 1024×64×64 int16", [1024, 64, 64, 1]),
+        edit("edit 64×64 over 32 channels int8", [640, 480, 32, 0]).at_most(6.0, MEMCPY),
+        edit("edit 64×64 over 32 channels int16", [640, 480, 32, 1]),
+        pack_weights("weights 256×256×3×3 int8", [256, 256, 3, 3, 0]).at_most(9.0, MEMCPY),
+        pack_weights("weights 256×256×1×1 int8", [256, 256, 1, 1, 0]),
+        unpack_weights("unpack weights 256×256×3×3 int8", [256, 256, 3, 3, 0]),
+        unpack_weights("unpack weights 256×256×1×1 int8", [256, 256, 1, 1, 0]),
     ];
     let linear = settings(Mode::Linear, 6, 0, 4096, 2048);
     let exponential = settings(Mode::Exponential, 3, 2048, i32::MAX, 0);
     for (mode, s, high) in [("linear", linear, 8191), ("exponential", exponential, 6143)] {
         let mut generator = Generator::new(SEED);
-        let range = (high - LOW + 1) as usize;
         let random: Vec<i32> = (0..ALL).map(|_| generator.between(LOW.into(), high.into()) as i32).collect();
-        let rising: Vec<i32> = (0..ALL).map(|i| LOW + (i * range / ALL) as i32).collect();
+        let rising: Vec<i32> = (0..ALL).map(|i| LOW + (i * (high - LOW + 1) as usize / ALL) as i32).collect();
         let name = |rest| format!("lookup {mode}, {rest}");
         rows.push(lookup(&name("random, runs of 1"), &s, &random[..FEW], 1));
         rows.push(lookup(&name("random, runs of 64"), &s, &random[..FEW], 64));
