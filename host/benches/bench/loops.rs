@@ -33,8 +33,7 @@ fn read<'a>(precision: u32, from: impl Iterator<Item = &'a [u8]>, at: usize, to:
 
 /// Goes through a box, given by its first channel, row and column and how many there are of each: row by row, in each channel by channel. `run`
 /// gets the byte of the channel in all channels, the row's atoms and its elements.
-fn walk_box(layout: Layout, [first, sizes]: [[usize; 3]; 2], mut run: impl FnMut(usize, Range<usize>, Range<usize>)) {
-    let [channels, rows, columns] = sizes;
+fn walk_box(layout: Layout, [first, [channels, rows, columns]]: [[usize; 3]; 2], mut run: impl FnMut(usize, Range<usize>, Range<usize>)) {
     let [start, surface, line] = [layout.start, layout.surface, layout.line].map(|bytes| bytes as usize);
     for h in 0..rows {
         for c in 0..channels {

@@ -51,6 +51,14 @@ enum Step {
     Clear,
     Run,
 }
+use Step::{Clear, Run};
+
+/// The tables: their titles, and the untimed steps before each timed run.
+const TABLES: [(&str, &[Step]); 3] = [
+    ("In turn; buffers: not cleared between repetitions. The bars are judged here.", &[]),
+    ("In turn; buffers: cleared before each run (zeros written, not timed).", &[Clear]),
+    ("Each after three untimed runs of its own, so that its data are in the caches as far as they fit; buffers: not cleared.", &[Run; 3]),
+];
 
 /// One of those that are timed, with buffers of its own: no other brings its data into the caches.
 type Contender<'a> = Box<dyn FnMut(Step) + 'a>;
@@ -77,8 +85,8 @@ fn contender<'a, I: Copy + 'a, O: Copy + Default + 'a>(
     Box::new(move |step| {
         let output = &mut output[to..];
         match step {
-            Step::Clear => written.iter().for_each(|part| output[part.clone()].fill(O::default())),
-            Step::Run => _ = black_box(run(black_box(&input[from..]), black_box(output)).expect("accepted")),
+            Clear => written.iter().for_each(|part| output[part.clone()].fill(O::default())),
+            Run => _ = black_box(run(black_box(&input[from..]), black_box(output)).expect("accepted")),
         }
     })
 }
@@ -93,7 +101,7 @@ fn interleave(repetitions: usize, before: &[Step], contenders: &mut [Contender; 
         for (contender, runs) in contenders.iter_mut().zip(&mut runs) {
             before.iter().for_each(|&step| contender(step));
             let (begun, begin) = (Instant::now(), thread_time());
-            contender(Step::Run);
+            contender(Run);
             let thread = thread_time() - begin - cost;
             let passed = begun.elapsed().as_nanos() as f64 - 2.0 * cost;
             runs.push([thread, passed]);
@@ -111,12 +119,6 @@ struct Row {
     times: [[Times; 3]; 3],
     /// What our time may be at most: a multiple of another's.
     bar: Option<(f64, usize)>,
-}
-
-impl Row {
-    fn at_most(self, most: f64, other: usize) -> Row {
-        Row { bar: Some((most, other)), ..self }
-    }
 }
 
 /// Compares what two calls, the library's and the Rust loop's, give and leave; then times them and a memcpy. The time is divided by `cells`;
@@ -139,8 +141,7 @@ fn measure<I: Copy, O: Copy + Default + PartialEq>(
         Ok([0; 5])
     });
     let mut contenders = [ours, plain, copy];
-    let before: [&[Step]; 3] = [&[], &[Step::Clear], &[Step::Run; 3]];
-    let times = before.map(|steps| interleave(repetitions, steps, &mut contenders));
+    let times = TABLES.map(|(_, before)| interleave(repetitions, before, &mut contenders));
     Row { name: name.to_string(), cells, kinds: results[0].0, times, bar: None }
 }
 
@@ -197,12 +198,11 @@ fn edit(name: &str, words: [u32; 4]) -> Row {
     let part = [0, 24, 40, layout.channels, 64, 64].into();
     let corner = (80 + 24) * layout.line + 32 * (96 + 40);
     let surfaces = (corner as usize..bytes.len()).step_by(layout.surface as usize);
-    let lines = surfaces.flat_map(|at| (at..).step_by(layout.line as usize).take(64));
-    let written: Vec<Range<usize>> = lines.map(|at| at..at + 32 * 64).collect();
+    let lines = surfaces.flat_map(|at| (at..).step_by(layout.line as usize).take(64).map(|at| at..at + 32 * 64));
     let cells = draw::box_count(part);
     let calls = [Table::edit, loops::edit]
         .map(|call| move |from: &[i16], to: &mut [u8]| call(black_box(&table), SLOT, black_box(part), from, to).map(|()| [0; 5]));
-    measure(name, 1001, cells, &elements[..cells], &vec![LEFT; bytes.len()], &written, calls)
+    measure(name, 1001, cells, &elements[..cells], &vec![LEFT; bytes.len()], &lines.collect::<Vec<_>>(), calls)
 }
 
 /// Y of 256 steps of 16 from `y_start`; Priority X, OverflowPriority X, UnderflowPriority Y.
@@ -230,10 +230,6 @@ fn lookup(name: &str, l: &Lookup, samples: &[i32], run: usize) -> Row {
 
 // ---- the tables
 
-fn print_times(times: Times, by: Times) {
-    print!(" {:.3} ({:.3}) |", times[0] / by[0], times[1] / by[1]);
-}
-
 fn print_table(title: &str, rows: &[Row], number: usize) {
     let [ours, others @ ..] = NAMES;
     let columns = NAMES.map(|name| format!(" {name}, ns per cell |")).concat() + &others.map(|name| format!(" {ours} / {name} |")).concat();
@@ -241,8 +237,9 @@ fn print_table(title: &str, rows: &[Row], number: usize) {
     for Row { name, cells, times, bar, .. } in rows {
         print!("| {name} | {cells} |");
         let times = times[number];
-        times.iter().for_each(|&each| print_times(each, [*cells as f64; 2]));
-        times[1..].iter().for_each(|&other| print_times(times[0], other));
+        let print = |times: Times, by: Times| print!(" {:.3} ({:.3}) |", times[0] / by[0], times[1] / by[1]);
+        times.iter().for_each(|&each| print(each, [*cells as f64; 2]));
+        times[1..].iter().for_each(|&other| print(times[0], other));
         let judged = bar.map(|(most, other)| {
             let met = times[0].iter().zip(times[other]).all(|(ours, other)| ours / other <= most);
             format!("{most:.2} × {} | {}", NAMES[other], if met { "met" } else { "missed" })
@@ -267,21 +264,22 @@ fn main() {
     const ALL: usize = 1_000_000;
     const FEW: usize = 64_000;
     const LOW: i32 = -2048;
+    let at_most = |most, other, row| Row { bar: Some((most, other)), ..row };
     let pack_cube = |name, of| pack(name, 41, cube(of), [Layout::pack, loops::pack]);
     let unpack_cube = |name, of| unpack(name, 41, cube(of), [Layout::unpack, loops::unpack]);
     let pack_weights = |name, words| pack(name, 1001, weights(words), [Weights::pack, loops::pack_weights]);
     let unpack_weights = |name, words| unpack(name, 1001, weights(words), [Weights::unpack, loops::unpack_weights]);
     let mut rows = vec![
-        pack_cube("pack 640×480×32 int8", [640, 480, 32, 0]).at_most(3.0, MEMCPY),
+        at_most(3.0, MEMCPY, pack_cube("pack 640×480×32 int8", [640, 480, 32, 0])),
         pack_cube("pack 640×480×12 int8", [640, 480, 12, 0]),
         pack_cube("pack 640×480×4 int8", [640, 480, 4, 0]),
-        pack_cube("pack 640×480×3 int8", [640, 480, 3, 0]).at_most(2.2, MEMCPY),
-        pack_cube("pack 1024×64×64 int16", [1024, 64, 64, 1]).at_most(2.5, MEMCPY),
-        unpack_cube("unpack 640×480×32 int8", [640, 480, 32, 0]).at_most(3.0, MEMCPY),
+        at_most(2.2, MEMCPY, pack_cube("pack 640×480×3 int8", [640, 480, 3, 0])),
+        at_most(2.5, MEMCPY, pack_cube("pack 1024×64×64 int16", [1024, 64, 64, 1])),
+        at_most(3.0, MEMCPY, unpack_cube("unpack 640×480×32 int8", [640, 480, 32, 0])),
         unpack_cube("unpack 1024×64×64 int16", [1024, 64, 64, 1]),
-        edit("edit 64×64 over 32 channels int8", [640, 480, 32, 0]).at_most(6.0, MEMCPY),
+        at_most(6.0, MEMCPY, edit("edit 64×64 over 32 channels int8", [640, 480, 32, 0])),
         edit("edit 64×64 over 32 channels int16", [640, 480, 32, 1]),
-        pack_weights("weights 256×256×3×3 int8", [256, 256, 3, 3, 0]).at_most(9.0, MEMCPY),
+        at_most(9.0, MEMCPY, pack_weights("weights 256×256×3×3 int8", [256, 256, 3, 3, 0])),
         pack_weights("weights 256×256×1×1 int8", [256, 256, 1, 1, 0]),
         unpack_weights("unpack weights 256×256×3×3 int8", [256, 256, 3, 3, 0]),
         unpack_weights("unpack weights 256×256×1×1 int8", [256, 256, 1, 1, 0]),
@@ -295,17 +293,12 @@ fn main() {
         let name = |rest| format!("lookup {mode}, {rest}");
         rows.push(lookup(&name("random, runs of 1"), &s, &random[..FEW], 1));
         rows.push(lookup(&name("random, runs of 64"), &s, &random[..FEW], 64));
-        rows.push(lookup(&name("random"), &s, &random, ALL).at_most(1.5, RUST_LOOP));
-        rows.push(lookup(&name("rising"), &s, &rising, ALL).at_most(1.5, RUST_LOOP));
+        rows.push(at_most(1.5, RUST_LOOP, lookup(&name("random"), &s, &random, ALL)));
+        rows.push(at_most(1.5, RUST_LOOP, lookup(&name("rising"), &s, &rising, ALL)));
     }
     println!("{EXPLAINED}");
     for row in rows.iter().filter(|row| row.kinds != [0; 5]) {
         println!("- {}: {:?}", row.name, row.kinds);
     }
-    let titles = [
-        "In turn; buffers: not cleared between repetitions. The bars are judged here.",
-        "In turn; buffers: cleared before each run (zeros written, not timed).",
-        "Each after three untimed runs of its own, so that its data are in the caches as far as they fit; buffers: not cleared.",
-    ];
-    titles.iter().enumerate().for_each(|(number, title)| print_table(title, &rows, number));
+    TABLES.iter().enumerate().for_each(|(number, (title, _))| print_table(title, &rows, number));
 }

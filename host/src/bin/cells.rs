@@ -15,15 +15,12 @@ as many bytes as are needed, 0 where the packing leaves them; or, with OVER, the
 writes CELLS. PRECISION is 0 (int8), 1 (int16) or 2 (fp16). A refusal is printed with its number and sentence, and nothing is written.
 Ends with 0 where it was done, 1 where it was refused or a file failed, 2 where it was not called so.";
 
-/// What is printed where the work was not done, and the status.
-struct Failure(String, i32);
-
-fn usage() -> Failure {
-    Failure(USAGE.to_string(), 2)
-}
+/// What is printed where the work was not done; none where it was not called as `USAGE` says.
+type Failure = Option<String>;
+const MISUSED: Failure = None;
 
 fn failed(why: impl Display) -> Failure {
-    Failure(format!("cells: {why}"), 1)
+    Some(format!("cells: {why}"))
 }
 
 fn read(name: &str) -> Result<Vec<u8>, Failure> {
@@ -41,9 +38,9 @@ fn zeros<T: Copy + Default>(count: u64) -> Result<Vec<T>, Failure> {
 
 /// A setting of so many words, and the words after it.
 fn setting<S: From<[u32; N]>, const N: usize>(words: &[String]) -> Result<(S, &[String]), Failure> {
-    let (first, rest) = words.split_at_checked(N).ok_or_else(usage)?;
+    let (first, rest) = words.split_at_checked(N).ok_or(MISUSED)?;
     let parsed: Vec<u32> = first.iter().filter_map(|word| word.parse().ok()).collect();
-    let words: [u32; N] = parsed.try_into().map_err(|_| usage())?;
+    let words: [u32; N] = parsed.try_into().map_err(|_| MISUSED)?;
     Ok((words.into(), rest))
 }
 
@@ -69,13 +66,13 @@ fn convey<S>(
             unpack(setting, &read(from)?, &mut cells).map_err(failed)?;
             (to, cells.into_iter().flat_map(i16::to_le_bytes).collect())
         }
-        _ => return Err(usage()),
+        _ => return Err(MISUSED),
     };
     fs::write(to, made).map_err(|error| failed(format!("{to}: {error}")))
 }
 
 fn run(words: &[String]) -> Result<(), Failure> {
-    let [way, kind, rest @ ..] = words else { return Err(usage()) };
+    let [way, kind, rest @ ..] = words else { return Err(MISUSED) };
     match kind.as_str() {
         "frame" => {
             let (layout, files) = setting::<Layout, 7>(rest)?;
@@ -88,14 +85,14 @@ fn run(words: &[String]) -> Result<(), Failure> {
             let sizes = weights.count().and_then(|count| Ok((count, weights.extent()?)));
             convey(way, files, weights, sizes, Weights::pack, Weights::unpack)
         }
-        _ => Err(usage()),
+        _ => Err(MISUSED),
     }
 }
 
 fn main() {
     let words: Vec<String> = env::args().skip(1).collect();
-    if let Err(Failure(text, status)) = run(&words) {
-        eprintln!("{text}");
-        process::exit(status);
+    if let Err(failure) = run(&words) {
+        eprintln!("{}", failure.as_deref().unwrap_or(USAGE));
+        process::exit(if failure.is_some() { 1 } else { 2 });
     }
 }
