@@ -1,6 +1,6 @@
 //! Feature cubes and the regions of one cube.
 
-use crate::{answered, lent, raw, valued, words, Answer};
+use crate::{answered, lent, made, raw, valued, words, Answer};
 
 words! {
     /// A cube's layout (the scope paper's frame): sizes, precision code, then line stride, surface stride and start in bytes.
@@ -55,9 +55,7 @@ impl Table {
     /// The table of a layout with every slot empty; the calls on it check the layout.
     #[must_use]
     pub fn empty(layout: Layout) -> Table {
-        let mut words = [u32::MAX; Table::WORDS];
-        unsafe { raw::olsketina_regions_empty(&layout.into(), &mut words) };
-        Table { words }
+        Table { words: made([u32::MAX; Table::WORDS], |words| unsafe { raw::olsketina_regions_empty(&layout.into(), words) }) }
     }
 
     /// A table of any words: those of its layout, then five for each slot: placed (0 is empty, any other is placed), then the region's.

@@ -89,6 +89,13 @@ impl std::fmt::Display for Refusal {
 
 impl std::error::Error for Refusal {}
 
+/// What a call leaves in place of `before`, which it overwrites.
+fn made<T>(before: T, call: impl FnOnce(&mut T)) -> T {
+    let mut made = before;
+    call(&mut made);
+    made
+}
+
 /// Makes a call that stores the index at fault; before it there stands a number that no call stores.
 fn answered(call: impl FnOnce(&mut usize) -> u32) -> Answer<()> {
     let mut fault = usize::MAX;

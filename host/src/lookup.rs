@@ -84,7 +84,7 @@ impl Choice {
 
 /// The camera curve. Past the last entry an entry is the last.
 pub mod camera {
-    use crate::raw;
+    use crate::{made, raw};
 
     #[must_use]
     pub fn x_entry(j: u32) -> i16 {
@@ -98,15 +98,11 @@ pub mod camera {
 
     #[must_use]
     pub fn x_table() -> [i16; 65] {
-        let mut entries = [-1; 65];
-        unsafe { raw::olsketina_camera_x_table(&mut entries) };
-        entries
+        made([-1; 65], |entries| unsafe { raw::olsketina_camera_x_table(entries) })
     }
 
     #[must_use]
     pub fn y_table() -> [i16; 257] {
-        let mut entries = [-1; 257];
-        unsafe { raw::olsketina_camera_y_table(&mut entries) };
-        entries
+        made([-1; 257], |entries| unsafe { raw::olsketina_camera_y_table(entries) })
     }
 }

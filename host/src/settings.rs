@@ -25,9 +25,7 @@ impl Weights {
 
     /// The byte at which an element begins.
     pub fn position(self, kernel: u32, channel: u32, row: u32, column: u32) -> Answer<u64> {
-        valued(u64::MAX, |value, fault| unsafe {
-            raw::olsketina_weights_position(&self.into(), kernel, channel, row, column, value, fault)
-        })
+        valued(u64::MAX, |byte, fault| unsafe { raw::olsketina_weights_position(&self.into(), kernel, channel, row, column, byte, fault) })
     }
 
     /// Packs raw weights, filled with 0 to a multiple of 128 bytes; later bytes stay.

@@ -1,6 +1,6 @@
 //! A sheet, fed in parts.
 
-use crate::{raw, Answer, Refusal};
+use crate::{made, raw, Answer, Refusal};
 
 /// A sheet in progress: its state in words and the line in progress (include/olsketina.h).
 #[derive(Clone, Copy, Debug, PartialEq, Eq)]
@@ -20,7 +20,7 @@ pub struct Row {
 impl Row {
     fn from_words(words: [u64; 5]) -> Option<Row> {
         let [ended, line, number, fault, value] = words;
-        debug_assert!(words == [0; 5] || ended == 1 && (if number == 0 { fault } else { value }) == 0, "no line ended, or one");
+        debug_assert!(words == [0; 5] || ended == 1 && (if number == 0 { fault } else { value }) == 0, "zeros, or one answer");
         let answer = if number == 0 { Ok(value) } else { Err(Refusal { number: number as u32, fault: fault as usize }) };
         (ended != 0).then_some(Row { line, answer })
     }
@@ -49,9 +49,8 @@ fn printed(call: impl FnOnce(&mut [u8; raw::TEXT_BYTES]) -> u32) -> Vec<u8> {
 impl Sheet {
     #[must_use]
     pub fn begin() -> Sheet {
-        let mut sheet = Sheet { state: [u32::MAX; raw::STATE_WORDS], text: [255; raw::TEXT_BYTES] };
-        unsafe { raw::olsketina_script_begin(&mut sheet.state, &mut sheet.text) };
-        sheet
+        let before = Sheet { state: [u32::MAX; raw::STATE_WORDS], text: [255; raw::TEXT_BYTES] };
+        made(before, |sheet| unsafe { raw::olsketina_script_begin(&mut sheet.state, &mut sheet.text) })
     }
 
     /// Reads a part of the input up to its first newline, or whole: how many bytes it read, and the line that ended.
@@ -65,8 +64,6 @@ impl Sheet {
     /// The end of the input: a last line may lack its newline.
     #[must_use]
     pub fn finish(&mut self) -> Option<Row> {
-        let mut row = [u64::MAX; 5];
-        unsafe { raw::olsketina_script_finish(&mut self.state, &mut self.text, &mut row) };
-        Row::from_words(row)
+        Row::from_words(made([u64::MAX; 5], |row| unsafe { raw::olsketina_script_finish(&mut self.state, &mut self.text, row) }))
     }
 }
