@@ -9,19 +9,23 @@ use std::fmt::{Arguments, Debug};
 const MARGIN: usize = 37;
 const FILL: u8 = 0xa5;
 
-/// Lends a copy of `contents` with margins on both sides; gives the result and what was left. A write past the ends fails with the case.
-pub fn lend<T, R>(contents: &[T], case: Arguments, call: impl FnOnce(&mut [T]) -> R) -> (R, Vec<T>)
-where
-    T: Copy + PartialEq + From<u8>,
-{
-    let margin = [T::from(FILL); MARGIN];
-    let mut all = [&margin, contents, &margin].concat();
-    let end = MARGIN + contents.len();
-    let result = call(&mut all[MARGIN..end]);
-    let kept = all[..MARGIN].iter().chain(&all[end..]).all(|&element| element == T::from(FILL));
-    assert!(kept, "the library wrote past what it was lent; case: {case}");
-    (result, all[MARGIN..end].to_vec())
+/// Makes a call on both sides with the same arguments. After `;` stand what is lent for reading and what is lent for writing, both last in the
+/// call; each side writes to its own copy. Gives the accepted value, or what was left.
+macro_rules! compare {
+    ($both:expr, $call:literal, $library:path, $reference:path, $($argument:expr),+) => {
+        $both.same($call, $library($($argument),+), $reference($($argument),+), format_args!("{:?}", ($($argument,)+)))
+    };
+    ($both:expr, $call:literal, $library:path, $reference:path, $($argument:expr),+; $from:expr, $to:expr) => {
+        $both.lend(
+            $call,
+            $to,
+            format_args!("{:?}, lent {} to read, {} to write", ($($argument,)+), $from.len(), $to.len()),
+            |to: &mut [_]| $library($($argument),+, $from, to),
+            |to: &mut [_]| $reference($($argument),+, $from, to),
+        )
+    };
 }
+pub(crate) use compare;
 
 /// Fails with the case and the first difference.
 pub fn same<T: PartialEq + Debug>(what: &str, library: &[T], reference: &[T], case: Arguments) {
@@ -33,38 +37,41 @@ pub fn same<T: PartialEq + Debug>(what: &str, library: &[T], reference: &[T], ca
 }
 
 /// The cases compared: how often each call gave each answer.
-#[derive(Default)]
 pub struct Both {
     counts: BTreeMap<&'static str, BTreeMap<u32, u64>>,
-    /// The number of the last case's answer.
-    pub last: u32,
+    /// The last case's answer.
+    pub last: Answer<()>,
 }
 
 impl Both {
     /// Compares two answers with their values and counts the case.
     pub fn same<T: PartialEq + Debug>(
         &mut self, call: &'static str, library: Answer<T>, reference: Answer<T>, case: Arguments,
-    ) -> Answer<T> {
+    ) -> Option<T> {
         assert!(library == reference, "{call}: the library gives {library:?}, the reference {reference:?}; case: {case}");
         self.note(call, number(&library));
-        library
+        self.last = library.as_ref().map(|_| ()).map_err(|&refusal| refusal);
+        library.ok()
     }
 
-    /// Makes a call on both sides, each on its own copy of what is lent for writing; gives what both left.
+    /// The same of a call that is lent a copy of `before`, with margins on the library's side; gives what both left.
     pub fn lend<T: Copy + PartialEq + From<u8> + Debug>(
         &mut self, call: &'static str, before: &[T], case: Arguments, library: impl FnOnce(&mut [T]) -> Answer<()>,
         reference: impl FnOnce(&mut [T]) -> Answer<()>,
     ) -> Vec<T> {
-        let (ours, left) = lend(before, case, library);
+        let margin = [T::from(FILL); MARGIN];
+        let mut ours = [&margin, before, &margin].concat();
         let mut theirs = before.to_vec();
-        let _ = self.same(call, ours, reference(&mut theirs), case);
-        same(call, &left, &theirs, case);
-        left
+        let lent = MARGIN..MARGIN + before.len();
+        self.same(call, library(&mut ours[lent.clone()]), reference(&mut theirs), case);
+        same(call, &ours[lent.clone()], &theirs, case);
+        let kept = ours[..lent.start] == margin && ours[lent.end..] == margin;
+        assert!(kept, "{call}: the library wrote past what it was lent; case: {case}");
+        theirs
     }
 
     pub fn note(&mut self, call: &'static str, number: u32) {
         *self.counts.entry(call).or_default().entry(number).or_insert(0) += 1;
-        self.last = number;
     }
 
     /// Prints the counts; fails unless these calls gave these answers, and no other ones.
@@ -81,7 +88,7 @@ impl Both {
 
 /// What a test begins with: numbers from a seed, and no case yet.
 pub fn start(seed: u64) -> (Generator, Both) {
-    (Generator::new(seed), Both::default())
+    (Generator::new(seed), Both { counts: BTreeMap::new(), last: Ok(()) })
 }
 
 /// An answer's number, 0 where it was accepted.

@@ -1,7 +1,7 @@
 //! A small generator of pseudorandom numbers, and the settings and lengths that the tests draw from it.
 
 use crate::reference::{self, each};
-use olsketina::{ElementBox, Layout};
+use olsketina::{ElementBox, Layout, Table};
 
 /// Words at and beside the limits.
 #[rustfmt::skip]
@@ -110,14 +110,14 @@ impl Generator {
         self.layout(width, height, channels, precision)
     }
 
-    /// Once in `odds` times changes one to three words of a setting to limits, or to a little beside what they were.
-    pub fn damage<const N: usize>(&mut self, odds: u64, setting: &mut (impl Copy + Into<[u32; N]> + From<[u32; N]>)) {
-        let mut words: [u32; N] = (*setting).into();
-        self.damage_words(odds, &mut words);
-        *setting = words.into();
+    /// The setting; once in `odds` times with one to three words changed to limits, or to a little beside what they were.
+    pub fn damaged<const N: usize, S: Into<[u32; N]> + From<[u32; N]>>(&mut self, odds: u64, setting: S) -> S {
+        let mut words: [u32; N] = setting.into();
+        self.damage(odds, &mut words);
+        words.into()
     }
 
-    pub fn damage_words(&mut self, odds: u64, words: &mut [u32]) {
+    pub fn damage(&mut self, odds: u64, words: &mut [u32]) {
         let changes = if self.one_in(odds) { self.among(1, 3) } else { 0 };
         for _ in 0..changes {
             let at = self.index(words.len());
@@ -173,21 +173,25 @@ pub fn dense(width: u32, height: u32, channels: u32, precision: u32) -> Layout {
     Layout { width, height, channels, precision, line: 32 * width, surface: 32 * width * height, start: 0 }
 }
 
-/// How long a buffer a cube needs: start plus extent. The layout is valid.
+/// How long a buffer a cube needs: start plus extent. Of a layout that is not valid, its start.
 pub fn buffer_length(layout: Layout) -> usize {
-    let extent = reference::cube::extent(layout).expect("a valid layout");
-    layout.start as usize + extent as usize
+    layout.start as usize + reference::cube::extent(layout).unwrap_or(0) as usize
+}
+
+pub fn product(sizes: &[u32]) -> usize {
+    sizes.iter().fold(1, |count: usize, &size| count.saturating_mul(size as usize))
 }
 
 /// How many elements a cube has.
 pub fn element_count(layout: Layout) -> usize {
-    [layout.width, layout.height, layout.channels].iter().map(|&size| size as usize).product()
+    product(&[layout.width, layout.height, layout.channels])
 }
 
-/// How many elements a box has, of a box in which that is a small number.
-pub fn box_count(part: ElementBox) -> usize {
-    let sizes = [part.channels, part.rows, part.columns];
-    sizes.iter().fold(1usize, |count, &size| count.saturating_mul(size as usize))
+/// The table of a layout, any words, with one slot's words: placed, then the region's.
+pub fn with_slot(layout: Layout, slot: usize, words: [u32; 5]) -> Table {
+    let mut table = *reference::regions::empty(layout).words();
+    table[7 + 5 * slot..12 + 5 * slot].copy_from_slice(&words);
+    Table::from_words(table)
 }
 
 /// The box of all elements.

@@ -1,8 +1,8 @@
 //! The two-table lookup, in both modes of X, and the camera curve.
 
-use crate::both::{same, Both};
+use crate::both::{compare, same, start as begin, Both};
 use crate::draw::{Generator, EDGES};
-use crate::reference::{self, each};
+use crate::reference::{camera as plain_camera, each, lookup as plain};
 use olsketina::{camera, Choice, Counters, Lookup, Mode, Slope, TableSettings};
 
 const MODES: [Mode; 2] = [Mode::Linear, Mode::Exponential];
@@ -17,10 +17,14 @@ struct Given {
 }
 
 /// The cases compared, and how many samples of each kind the accepted runs had.
-#[derive(Default)]
 struct Runs {
     both: Both,
     kinds: [u64; 5],
+}
+
+fn runs(seed: u64) -> (Generator, Runs) {
+    let (g, both) = begin(seed);
+    (g, Runs { both, kinds: [0; 5] })
 }
 
 impl Runs {
@@ -30,18 +34,18 @@ impl Runs {
         let [mut ours, mut theirs] = [*counters; 2];
         let case = format_args!("{lookup:?} X {xs:?} Y {ys:?} samples {samples:?} outputs {} {counters:?}", outputs.len());
         let library = |outputs: &mut [i32]| lookup.run(xs, ys, samples, outputs, &mut ours);
-        let plain = |outputs: &mut [i32]| reference::lookup::run(&lookup, xs, ys, samples, outputs, &mut theirs);
-        self.both.lend(call, outputs, case, library, plain);
+        let reference = |outputs: &mut [i32]| plain::run(&lookup, xs, ys, samples, outputs, &mut theirs);
+        self.both.lend(call, outputs, case, library, reference);
         same("counters", &ours, &theirs, case);
         for (kind, total) in self.kinds.iter_mut().enumerate() {
             *total += u64::from(ours[kind] - counters[kind]);
         }
     }
 
-    /// The same with tables, samples and counters drawn for it.
+    /// The same with tables and counters drawn for it, and samples too.
     fn drawn(&mut self, g: &mut Generator, lookup: Lookup) {
-        let given = given(g, &lookup);
-        self.run(lookup, &given);
+        let samples = samples(g, &lookup);
+        self.run(lookup, &given(g, samples));
     }
 
     /// Fails unless both calls gave these answers, and every kind of sample was seen.
@@ -57,35 +61,49 @@ fn end(start: i32, last: i64, select: i32) -> i64 {
     i64::from(start) + if select < 0 { last >> -select } else { last << select }
 }
 
+/// The greatest start from which a table of this length ends within 32 bits.
+fn greatest(last: i64, select: i32) -> i64 {
+    i64::from(i32::MAX) - end(0, last, select)
+}
+
 fn held(number: i64) -> i32 {
     number.clamp(i32::MIN.into(), i32::MAX.into()) as i32
 }
 
 /// A start from which a table of this length ends within 32 bits.
 fn start(g: &mut Generator, last: i64, select: i32) -> i32 {
-    let greatest = i64::from(i32::MAX) - end(0, last, select);
-    match g.below(6) {
-        0 => i32::MIN,
-        1 => greatest as i32,
-        2 => held(g.between(-300, 300)).min(greatest as i32),
-        3 => held(-end(0, last, select) / 2).min(greatest as i32),
-        _ => g.between(i32::MIN.into(), greatest) as i32,
-    }
+    let greatest = greatest(last, select);
+    let start = match g.below(6) {
+        0 => i32::MIN.into(),
+        1 => greatest,
+        2 => g.between(-300, 300),
+        3 => -end(0, last, select) / 2,
+        _ => g.between(i32::MIN.into(), greatest),
+    };
+    held(start.min(greatest))
 }
 
-fn slope(g: &mut Generator) -> Slope {
-    let scale = match g.below(3) {
-        0 => g.pick(&[i16::MIN, -1, 0, 1, i16::MAX]),
-        _ => g.word() as i16,
-    };
-    Slope { scale, shift: g.between(-16, 15) as i32 }
+fn slope(g: &mut Generator) -> (i16, i32) {
+    let scale = if g.one_in(3) { g.pick(&[i16::MIN, -1, 0, 1, i16::MAX]) } else { g.word() as i16 };
+    (scale, g.between(-16, 15) as i32)
+}
+
+fn table(select: i32, start: i32, end: i32, slopes: [(i16, i32); 2]) -> TableSettings {
+    let [below, above] = slopes.map(|(scale, shift)| Slope { scale, shift });
+    TableSettings { select, start, end, below, above }
+}
+
+/// The bits are Priority, OverflowPriority and UnderflowPriority.
+fn lookup(mode: Mode, x: TableSettings, y: TableSettings, bits: u32) -> Lookup {
+    let [priority, overflow, underflow] = [1, 2, 4].map(|bit| bits & bit != 0);
+    Lookup { mode, x, y, priority, overflow, underflow }
 }
 
 /// A valid linear table of last + 1 entries, its select from `low` to `high`.
 fn linear(g: &mut Generator, last: i64, low: i64, high: i64) -> TableSettings {
     let select = g.between(low, high) as i32;
     let start = start(g, last, select);
-    TableSettings { select, start, end: end(start, last, select) as i32, below: slope(g), above: slope(g) }
+    table(select, start, end(start, last, select) as i32, [slope(g), slope(g)])
 }
 
 /// Valid settings.
@@ -95,19 +113,17 @@ fn settings(g: &mut Generator, mode: Mode) -> Lookup {
         (x.select, x.end) = (g.between(-32, 31) as i32, i32::MAX);
         x.start = match g.below(4) {
             0 => g.pick(&[i32::MIN, -1, 0, 1, i32::MAX - 1, i32::MAX]),
-            1 => held(g.between(-300, 300)),
+            1 => g.between(-300, 300) as i32,
             _ => g.word() as i32,
         };
     }
     let mut y = linear(g, 256, -8, 23);
     if g.one_in(2) {
         // Beside the X table, so that both hit now and then.
-        let greatest = i64::from(i32::MAX) - end(0, 256, y.select);
-        y.start = held((i64::from(x.start) + g.between(-70, 70)).min(greatest));
+        y.start = held((i64::from(x.start) + g.between(-70, 70)).min(greatest(256, y.select)));
         y.end = end(y.start, 256, y.select) as i32;
     }
-    let [priority, overflow, underflow] = [g.one_in(2), g.one_in(2), g.one_in(2)];
-    Lookup { mode, x, y, priority, overflow, underflow }
+    lookup(mode, x, y, g.among(0, 7))
 }
 
 /// The four slopes: X below, X above, Y below, Y above.
@@ -143,20 +159,15 @@ fn samples(g: &mut Generator, lookup: &Lookup) -> Vec<i32> {
     samples
 }
 
-fn given(g: &mut Generator, lookup: &Lookup) -> Given {
-    let samples = samples(g, lookup);
-    Given {
-        xs: entries(g, 65),
-        ys: entries(g, 257),
-        outputs: vec![g.word() as i32; samples.len()],
-        samples,
-        counters: std::array::from_fn(|_| g.among(0, 1 << 20)),
-    }
+fn given(g: &mut Generator, samples: Vec<i32>) -> Given {
+    let outputs = vec![g.word() as i32; samples.len()];
+    let counters = std::array::from_fn(|_| g.among(0, 1 << 20));
+    Given { xs: entries(g, 65), ys: entries(g, 257), samples, outputs, counters }
 }
 
 #[test]
 fn accepted_runs() {
-    let (mut g, mut runs) = (Generator::new(80), Runs::default());
+    let (mut g, mut runs) = runs(80);
     each!(_ in 0..12000, mode in MODES => {
         let lookup = settings(&mut g, mode);
         runs.drawn(&mut g, lookup);
@@ -164,46 +175,40 @@ fn accepted_runs() {
     runs.expect("0");
 }
 
-/// Every select and offset from below its range to above it, with the right end and ends beside it.
+/// Every select and offset from below its range to above it, with the right end and ends beside it; then from starts at and beside the greatest:
+/// a table whose end would be past 32 bits has no end that is taken.
 #[test]
 fn every_select_and_offset() {
-    let (mut g, mut runs) = (Generator::new(81), Runs::default());
-    for mode in MODES {
-        let x = (-34..=34).map(|select| (true, select, (-6..=25).contains(&select)));
-        let y = (-10..=25).map(|select| (false, select, (-8..=23).contains(&select)));
-        each!((of_x, select, valid) in x.chain(y), beside in [0, 0, 0, 1, -1, i32::MIN] => {
-            let mut lookup = settings(&mut g, mode);
-            let last = if of_x { 64 } else { 256 };
+    let (mut g, mut runs) = runs(81);
+    let x = (-34..=34).map(|select| (64, select, (-6..=25).contains(&select)));
+    let y = (-10..=25).map(|select| (256, select, (-8..=23).contains(&select)));
+    each!(mode in MODES, (last, select, valid) in x.clone().chain(y.clone()) => {
+        let exponential = last == 64 && mode == Mode::Exponential;
+        let mut ends = Vec::new();
+        for beside in [0, 0, 0, 1, -1, i32::MIN] {
             let start = if valid { start(&mut g, last, select) } else { g.word() as i32 };
-            let end = if of_x && mode == Mode::Exponential { i32::MAX } else { held(end(start, last, select)) };
-            let table = if of_x { &mut lookup.x } else { &mut lookup.y };
-            (table.select, table.start, table.end) = (select, start, end.wrapping_add(beside));
+            let end = if exponential { i32::MAX } else { held(end(start, last, select)) };
+            ends.push((start, end.wrapping_add(beside)));
+        }
+        if valid && !exponential {
+            let starts = [-1, 0, 1, 2].map(|past| (greatest(last, select) + past) as i32);
+            ends.extend(starts.map(|start| (start, end(start, last, select) as i32)));
+        }
+        for (start, end) in ends {
+            let mut lookup = settings(&mut g, mode);
+            let table = if last == 64 { &mut lookup.x } else { &mut lookup.y };
+            (table.select, table.start, table.end) = (select, start, end);
             runs.drawn(&mut g, lookup);
-        });
-    }
-    runs.expect("0 12 13 14 15");
-}
-
-/// A table whose end would be past 32 bits has no end that is taken.
-#[test]
-fn ends_past_the_range() {
-    let (mut g, mut runs) = (Generator::new(82), Runs::default());
-    let x = (-6..=25).map(|select| (Mode::Linear, 64, select));
-    let y = MODES.into_iter().flat_map(|mode| (-8..=23).map(move |select| (mode, 256, select)));
-    each!((mode, last, select) in x.chain(y), past in [-1, 0, 1, 2] => {
-        let start = (i64::from(i32::MAX) - end(0, last, select) + past) as i32;
-        let mut lookup = settings(&mut g, mode);
-        let table = if last == 64 { &mut lookup.x } else { &mut lookup.y };
-        (table.select, table.start, table.end) = (select, start, end(start, last, select) as i32);
-        runs.drawn(&mut g, lookup);
+        }
     });
-    runs.both.expect("lut_run_exponential: 0 15; lut_run_linear: 0 13 15");
+    runs.expect("0 12 13 14 15");
 }
 
 #[test]
 fn every_shift() {
-    let (mut g, mut runs) = (Generator::new(83), Runs::default());
-    each!(mode in MODES, at in 0..4, shift in (-17..=16).chain([i32::MIN, -32, -31, 31, 32, i32::MAX]), scale in [i16::MIN, -3, -1, 0, 1, 3, i16::MAX] => {
+    let (mut g, mut runs) = runs(83);
+    let shifts = (-17..=16).chain([i32::MIN, -32, -31, 31, 32, i32::MAX]);
+    each!(mode in MODES, at in 0..4, shift in shifts.clone(), scale in [i16::MIN, -3, -1, 0, 1, 3, i16::MAX] => {
         let mut lookup = settings(&mut g, mode);
         *slopes(&mut lookup)[at] = Slope { scale, shift };
         runs.drawn(&mut g, lookup);
@@ -214,17 +219,16 @@ fn every_shift() {
 /// The longest slopes: a table at one end of the samples' range, and samples at the other.
 #[test]
 fn longest_slopes() {
-    let (mut g, mut runs) = (Generator::new(84), Runs::default());
-    each!(scale in [i16::MIN, i16::MIN + 1, -1, 1, i16::MAX], shift in [-16, -15, -1, 0, 1, 15], entry in [i16::MIN, 0, i16::MAX], start in [i32::MIN, i32::MAX - 1], bit in [false, true] => {
-        let slope = Slope { scale, shift };
-        let table = |select| TableSettings { select, start, end: start + 1, below: slope, above: slope };
-        let (mode, x, y) = (Mode::Linear, table(-6), table(-8));
-        let linear = Lookup { mode, x, y, priority: bit, overflow: bit, underflow: bit };
-        let mut given = given(&mut g, &linear);
-        (given.xs, given.ys) = (vec![entry; 65], vec![entry; 257]);
+    let (mut g, mut runs) = runs(84);
+    let slopes =
+        [i16::MIN, i16::MIN + 1, -1, 1, i16::MAX].into_iter().flat_map(|scale| [-16, -15, -1, 0, 1, 15].map(|shift| (scale, shift)));
+    each!(slope in slopes, entry in [i16::MIN, 0, i16::MAX], start in [i32::MIN, i32::MAX - 1], bits in [0, 7] => {
+        let [x, y] = [-6, -8].map(|select| table(select, start, start + 1, [slope; 2]));
+        let linear = lookup(Mode::Linear, x, y, bits);
+        let samples = samples(&mut g, &linear);
+        let given = Given { xs: vec![entry; 65], ys: vec![entry; 257], ..given(&mut g, samples) };
         runs.run(linear, &given);
-        let x = TableSettings { select: 31, start: i32::MAX, end: i32::MAX, ..x };
-        runs.run(Lookup { mode: Mode::Exponential, x, ..linear }, &given);
+        runs.run(lookup(Mode::Exponential, table(31, i32::MAX, i32::MAX, [slope; 2]), y, bits), &given);
     });
     runs.both.expect("lut_run_exponential: 0; lut_run_linear: 0");
 }
@@ -232,16 +236,16 @@ fn longest_slopes() {
 /// Settings, table lengths, output lengths and counters right and wrong in every mixture.
 #[test]
 fn refusals_and_their_order() {
-    let (mut g, mut runs) = (Generator::new(85), Runs::default());
+    let (mut g, mut runs) = runs(85);
     let [low, high] = [i32::MIN, i32::MAX];
     for round in 0..60000 {
         let mut lookup = settings(&mut g, MODES[round % 2]);
-        let mut given = given(&mut g, &lookup);
-        given.samples.truncate(g.index(12));
-        given.outputs.truncate(given.samples.len());
+        let mut samples = samples(&mut g, &lookup);
+        samples.truncate(g.index(12));
+        let count = samples.len();
+        let mut given = given(&mut g, samples);
         for _ in 0..g.below(4) {
             let [x_count, y_count] = [g.pick(&[0, 1, 64, 66, 257]), g.pick(&[0, 65, 256, 258])];
-            let count = given.samples.len();
             match g.below(9) {
                 0 => given.xs = entries(&mut g, x_count),
                 1 => given.ys = entries(&mut g, y_count),
@@ -262,65 +266,40 @@ fn refusals_and_their_order() {
 /// The five counters and the new samples up to 4294967295, and past it; also with no samples.
 #[test]
 fn counters_at_the_limit() {
-    let (mut g, mut runs) = (Generator::new(86), Runs::default());
+    let (mut g, mut runs) = runs(86);
     for round in 0..6000 {
         let lookup = settings(&mut g, MODES[round % 2]);
-        let mut given = given(&mut g, &lookup);
-        let count = g.pick(&[0, 0, 1, 2, 7, 100]);
-        given.samples.rotate_left(g.index(300));
-        given.samples.truncate(count);
-        given.outputs.truncate(count);
-        let sum = i64::from(u32::MAX) - count as i64 + g.between(-1, 1);
-        let mut left = sum.min(u32::MAX.into()) as u32;
-        let mut over = (sum - i64::from(left)) as u32;
+        let mut samples = samples(&mut g, &lookup);
+        samples.rotate_left(g.index(300));
+        samples.truncate(g.pick(&[0, 0, 1, 2, 7, 100]));
+        let mut left = i64::from(u32::MAX) - samples.len() as i64 + g.between(-1, 1);
+        let mut given = given(&mut g, samples);
         for counter in &mut given.counters {
-            *counter = if g.one_in(3) { left } else { g.among(0, left) };
-            left -= *counter;
+            *counter = if g.one_in(3) { left } else { g.between(0, left) }.min(u32::MAX.into()) as u32;
+            left -= i64::from(*counter);
         }
-        given.counters[0] += left;
-        for counter in &mut given.counters {
-            if over > 0 && *counter < u32::MAX {
-                *counter += over;
-                over = 0;
-            }
-        }
+        *given.counters.iter_mut().min().expect("five") += left as u32;
         runs.run(lookup, &given);
     }
     let lookup = settings(&mut g, Mode::Linear);
-    let mut given = given(&mut g, &lookup);
-    given.samples.clear();
-    given.outputs.clear();
-    each!(one in EDGES, other in EDGES => {
-        given.counters = [one, 0, other, 0, 0];
+    let mut given = given(&mut g, Vec::new());
+    let pairs = EDGES.into_iter().flat_map(|one| EDGES.map(|other| [one, 0, other, 0, 0]));
+    for counters in pairs.chain([[u32::MAX; 5]]) {
+        given.counters = counters;
         runs.run(lookup, &given);
-    });
-    given.counters = [u32::MAX; 5];
-    runs.run(lookup, &given);
+    }
     runs.expect("0 17");
-}
-
-fn table(select: i32, start: i32, end: i32, [below, above]: [(i16, i32); 2]) -> TableSettings {
-    let [below, above] = [below, above].map(|(scale, shift)| Slope { scale, shift });
-    TableSettings { select, start, end, below, above }
 }
 
 /// Each priority bit for each kind of sample.
 #[test]
 fn priorities() {
-    let (mut g, mut runs) = (Generator::new(87), Runs::default());
-    each!(bits in 0..8, mode in MODES => {
-        // X from 0 to 64, Y from −500 to −244 or from 32 to 288: every pair of sides but X above with Y below, then that too.
-        for y_start in [-500, 32, 500] {
-            let x_end = if mode == Mode::Linear { 64 } else { i32::MAX };
-            let [priority, overflow, underflow] = [1, 2, 4].map(|bit| bits & bit != 0);
-            let x = table(0, 0, x_end, [(3, 0), (5, 1)]);
-            let y = table(0, y_start, y_start + 256, [(7, -1), (11, 2)]);
-            let lookup = Lookup { mode, x, y, priority, overflow, underflow };
-            let mut given = given(&mut g, &lookup);
-            given.samples = (-600..900).step_by(7).collect();
-            given.outputs = vec![0; given.samples.len()];
-            runs.run(lookup, &given);
-        }
+    let (mut g, mut runs) = runs(87);
+    // X from 0 to 64, Y from −500 to −244 or from 32 to 288: every pair of sides but X above with Y below, then that too.
+    each!(bits in 0..8, (mode, x_end) in [(Mode::Linear, 64), (Mode::Exponential, i32::MAX)], y_start in [-500, 32, 500] => {
+        let x = table(0, 0, x_end, [(3, 0), (5, 1)]);
+        let y = table(0, y_start, y_start + 256, [(7, -1), (11, 2)]);
+        runs.run(lookup(mode, x, y, bits), &given(&mut g, (-600..900).step_by(7).collect()));
     });
     runs.expect("0");
 }
@@ -328,16 +307,12 @@ fn priorities() {
 /// Every sample around a short exponential table, for every offset.
 #[test]
 fn exponential_samples_one_by_one() {
-    let (mut g, mut runs) = (Generator::new(88), Runs::default());
+    let (mut g, mut runs) = runs(88);
     each!(offset in -32..=31, start in [0, -100, i32::MIN, i32::MAX - 700] => {
         let x = table(offset, start, i32::MAX, [(-3, 1), (5, 0)]);
         let y = table(-8, -5000, -4999, [(7, 0), (11, 0)]);
-        let (mode, no) = (Mode::Exponential, false);
-        let lookup = Lookup { mode, x, y, priority: no, overflow: no, underflow: no };
-        let mut given = given(&mut g, &lookup);
-        given.samples = (-10..690).map(|d| start.saturating_add(d)).collect();
-        given.outputs = vec![0; given.samples.len()];
-        runs.run(lookup, &given);
+        let samples = (-10..690).map(|d| start.saturating_add(d)).collect();
+        runs.run(lookup(Mode::Exponential, x, y, 0), &given(&mut g, samples));
     });
     runs.both.expect("lut_run_exponential: 0");
 }
@@ -345,11 +320,11 @@ fn exponential_samples_one_by_one() {
 #[test]
 fn every_entry_of_the_curve() {
     let [x, y] = [camera::x_table().to_vec(), camera::y_table().to_vec()];
-    same("X", &x, &(0..65).map(reference::camera::x_entry).collect::<Vec<i16>>(), format_args!("table"));
-    same("Y", &y, &(0..257).map(reference::camera::y_entry).collect::<Vec<i16>>(), format_args!("table"));
+    same("X", &x, &(0..65).map(plain_camera::x_entry).collect::<Vec<i16>>(), format_args!("table"));
+    same("Y", &y, &(0..257).map(plain_camera::y_entry).collect::<Vec<i16>>(), format_args!("table"));
     for i in (0..400).chain(EDGES) {
-        assert_eq!(camera::y_entry(i), reference::camera::y_entry(i), "Y {i}");
-        assert_eq!(camera::x_entry(i), reference::camera::x_entry(i), "X {i}");
+        assert_eq!(camera::y_entry(i), plain_camera::y_entry(i), "Y {i}");
+        assert_eq!(camera::x_entry(i), plain_camera::x_entry(i), "X {i}");
     }
     for (i, entry) in y.into_iter().enumerate() {
         let (entry, square) = (i64::from(entry), i as i64 * 1048576);
@@ -361,13 +336,13 @@ fn every_entry_of_the_curve() {
 /// Every select from below the range to above it, each bit named X, named Y or not named; then the settings at work.
 #[test]
 fn ready_made_settings() {
-    let (mut g, mut runs) = (Generator::new(90), Runs::default());
-    let words = [0, 1, 2, 1 << 31, u32::MAX];
-    each!(select in (-3..=26).chain([i32::MIN, i32::MIN + 2, -22, 32, 34, i32::MAX]), choice in 0..125 => {
-        let choices = [1, 5, 25].map(|part| Choice(words[choice / part % 5]));
-        let plain = reference::camera::ready_made(select, choices);
-        let case = format_args!("{select} {choices:?}");
-        let Ok(lookup) = runs.both.same("camera_ready_made", Lookup::ready_made(select, choices), plain, case) else { continue };
+    let (mut g, mut runs) = runs(90);
+    let words = [0, 1, 2, 1 << 31, u32::MAX].map(Choice);
+    let selects = (-3..=26).chain([i32::MIN, i32::MIN + 2, -22, 32, 34, i32::MAX]);
+    each!(select in selects, priority in words, overflow in words, underflow in words => {
+        let choices = [priority, overflow, underflow];
+        let made = compare!(runs.both, "camera_ready_made", Lookup::ready_made, plain_camera::ready_made, select, choices);
+        let Some(lookup) = made else { continue };
         let mut samples = vec![i32::MIN, -1, 0, 1, i32::MAX];
         for end in [lookup.x.end, lookup.y.end] {
             samples.extend([end - 1, end, end.saturating_add(1)]);

@@ -3,15 +3,15 @@
 //! long ones) run with --include-ignored.
 
 mod both;
+mod calls;
 mod draw;
+mod plain_picture;
 mod reference;
 
 mod conversion;
-mod cubes;
 mod lookup;
-mod pixels;
-mod plain_picture;
+mod packed;
 mod regions;
+mod settings;
 mod sheets;
-mod weights;
 mod worked;

@@ -1,97 +1,77 @@
-//! Regions of a cube: lists of calls on one table and buffer, and tables of any words.
+//! Regions of a cube: lists of calls on one table and buffer, beside the plain picture too, and tables of any words.
 
-use crate::both::{number, same, Both};
-use crate::draw::{box_count, buffer_length, Generator, EDGES, OUTSIDE};
+use crate::both::{number, same, start, Both};
+use crate::calls::{Cube, Part};
+use crate::draw::{buffer_length, element_count, product, with_slot, Generator, EDGES};
+use crate::plain_picture::PlainPicture;
 use crate::reference::{self, each};
 use olsketina::{Answer, ElementBox, Layout, Region, Table};
 
-impl Both {
-    pub fn edit(&mut self, table: &Table, slot: u32, part: ElementBox, elements: &[i16], buffer: &[u8]) -> Vec<u8> {
-        let case = format_args!("slot {slot} {part:?} elements {} buffer {} {table:?}", elements.len(), buffer.len());
-        let plain = |buffer: &mut [u8]| reference::regions::edit(table, slot, part, elements, buffer);
-        self.lend("regions_edit", buffer, case, |buffer| table.edit(slot, part, elements, buffer), plain)
-    }
-
-    pub fn read(&mut self, table: &Table, slot: u32, part: ElementBox, buffer: &[u8], elements: &[i16]) -> Vec<i16> {
-        let case = format_args!("slot {slot} {part:?} elements {} buffer {} {table:?}", elements.len(), buffer.len());
-        let plain = |elements: &mut [i16]| reference::regions::read(table, slot, part, buffer, elements);
-        self.lend("regions_read", elements, case, |elements| table.read(slot, part, buffer, elements), plain)
-    }
-
-    /// Writes a box over old contents and reads it again, both accepted.
-    pub fn region_trip(&mut self, g: &mut Generator, table: &Table, slot: u32, part: ElementBox) {
-        let layout = table.layout();
-        let longer = g.pick(&[0, 0, 1, 31, 64]);
-        let elements = g.elements(layout.precision, box_count(part));
-        let old = g.bytes(buffer_length(layout) + longer);
-        let written = self.edit(table, slot, part, &elements, &old);
-        let blank = g.any_elements(elements.len());
-        assert_eq!(self.read(table, slot, part, &written, &blank), elements, "read after edit: {part:?} {table:?}");
-        self.read(table, slot, part, &old, &blank);
-    }
-}
-
-/// A table and a buffer, alike on both sides after every call, and the cases compared.
+/// A table and a buffer, alike on both sides after every call, and the cases compared. The plain picture, where there is one, is fed each call.
 struct Session {
     table: Table,
     buffer: Vec<u8>,
+    /// How much of the buffer the next calls are lent.
+    lent: usize,
+    picture: Option<PlainPicture>,
     both: Both,
 }
 
+fn session(seed: u64) -> (Generator, Session) {
+    let (g, both) = start(seed);
+    (g, Session { table: Table::from_words([0; Table::WORDS]), buffer: Vec::new(), lent: 0, picture: None, both })
+}
+
 impl Session {
-    fn new() -> Session {
-        Session { table: Table::from_words([0; Table::WORDS]), buffer: Vec::new(), both: Both::default() }
+    /// Goes on with another table and buffer.
+    fn set(&mut self, table: Table, buffer: Vec<u8>) {
+        (self.table, self.lent, self.buffer, self.picture) = (table, buffer.len(), buffer, None);
     }
 
-    /// Goes on with an empty table.
-    fn empty(&mut self, layout: Layout, buffer: Vec<u8>) {
-        (self.table, self.buffer) = (Table::empty(layout), buffer);
-        let plain = reference::regions::empty(layout);
-        same("regions_empty", self.table.words(), plain.words(), format_args!("{layout:?}"));
+    /// Goes on with an empty table, and the elements packed over a buffer, beside the plain picture. The layout is valid.
+    fn pack(&mut self, layout: Layout, elements: Vec<i16>, before: Vec<u8>) {
+        let (table, buffer) = (self.both.empty(layout), self.both.write(Cube(layout), &elements, &before));
+        self.set(table, buffer);
+        self.picture = Some(PlainPicture { layout, before, elements, slots: [None; 16] });
     }
 
-    fn place(&mut self, slot: u32, region: impl Into<Region>) -> Answer<()> {
-        let (before, region) = (self.table, region.into());
-        let mut plain = before;
-        let case = format_args!("slot {slot} {region:?} {before:?}");
-        let answer = reference::regions::place(&mut plain, slot, region);
-        let answer = self.both.same("regions_place", self.table.place(slot, region), answer, case);
-        same("table", self.table.words(), plain.words(), case);
-        answer
+    /// After a call: makes it on the plain picture, with as much of the buffer; the answers agree, and the buffer is what it must be.
+    fn beside(&mut self, call: &'static str, plain: impl FnOnce(&mut PlainPicture, usize) -> Answer<()>) {
+        let Some(picture) = &mut self.picture else { return };
+        let case = format_args!("{:?}", self.table);
+        self.both.same(call, self.both.last, plain(picture, self.lent), case);
+        same("buffer beside the plain picture", &self.buffer, &picture.buffer(), case);
+    }
+
+    fn place(&mut self, slot: u32, region: impl Into<Region>) {
+        let region = region.into();
+        self.both.place(&mut self.table, slot, region);
+        self.beside("place beside the plain picture", |picture, _| picture.place(slot, region));
     }
 
     /// Writes a box; whether that was accepted.
     fn edit(&mut self, slot: u32, part: ElementBox, elements: &[i16]) -> bool {
-        self.buffer = self.both.edit(&self.table, slot, part, elements, &self.buffer);
-        self.both.last == 0
+        let lent = &mut self.buffer[..self.lent];
+        lent.copy_from_slice(&self.both.write(Part(self.table, slot, part), elements, lent));
+        self.beside("edit beside the plain picture", |picture, bytes| picture.edit(slot, part, elements, bytes));
+        self.both.last.is_ok()
     }
 
     /// Reads over old elements; gives the elements afterwards.
     fn read(&mut self, slot: u32, part: ElementBox, old: &[i16]) -> Vec<i16> {
-        self.both.read(&self.table, slot, part, &self.buffer, old)
-    }
-
-    fn position(&mut self, slot: u32, [channel, row, column]: [u32; 3]) {
-        let table = self.table;
-        let case = format_args!("slot {slot} channel {channel} row {row} column {column} {table:?}");
-        let plain = reference::regions::position(&table, slot, channel, row, column);
-        let _ = self.both.same("regions_position", table.position(slot, channel, row, column), plain, case);
-    }
-
-    /// A box for a slot: inside its region most often.
-    fn box_in(&self, g: &mut Generator, slot: u32) -> ElementBox {
-        let words = self.table.words();
-        let at = 7 + 5 * (slot % 16) as usize;
-        let [channels, columns, rows] = [words[2], words[at + 3], words[at + 4]].map(|size| size.clamp(1, 130));
-        let mut part = g.inner_box(channels, rows, columns);
-        g.damage::<6>(8, &mut part);
-        part
+        let left = self.both.read(Part(self.table, slot, part), &self.buffer[..self.lent], old);
+        let mut plain = old.to_vec();
+        self.beside("read beside the plain picture", |picture, bytes| {
+            let answer = picture.read(slot, part, &mut plain, bytes);
+            same("elements beside the plain picture", &left, &plain, format_args!("slot {slot} {part:?}"));
+            answer
+        });
+        left
     }
 
     /// One call of any kind, refused now and then.
     fn any_call(&mut self, g: &mut Generator) {
-        let Layout { width, height, precision, .. } = self.table.layout();
-        let [width, height] = [width, height].map(|size| size.clamp(1, 200));
+        let layout = self.table.layout();
         let placed: Vec<u32> = (0..16).filter(|&slot| self.table.region(slot).is_some()).collect();
         let call = g.below(8);
         let slot = match g.below(16) {
@@ -101,105 +81,108 @@ impl Session {
             _ => g.among(0, 15),
         };
         if call <= 1 {
-            let [column, row] = [g.among(0, width - 1), g.among(0, height - 1)];
-            let columns = g.among(1, width - column).min(g.among(1, width));
-            let rows = g.among(1, height - row).min(g.among(1, height));
-            let mut region = Region { column, row, columns, rows };
-            g.damage::<4>(6, &mut region);
-            let _ = self.place(slot, region);
-            return;
+            let [width, height] = [layout.width, layout.height].map(|size| size.clamp(1, 200));
+            let ElementBox { column, row, columns, rows, .. } = g.inner_box(1, height, width);
+            let region = [column, row, columns.min(g.among(1, width)), rows.min(g.among(1, height))];
+            return self.place(slot, g.damaged(6, Region::from(region)));
         }
-        let part = self.box_in(g, slot);
-        let count = box_count(part).min(50000);
+        // A byte short, a buffer refuses edits and reads, and nothing else.
+        let short = self.picture.is_some() && g.one_in(20);
+        self.lent = if short { buffer_length(layout) - 1 } else { self.buffer.len() };
+        // Inside the slot's region most often, placed or not.
+        let at = 7 + 5 * (slot % 16) as usize;
+        let [channels, columns, rows] = [2, at + 3, at + 4].map(|word| self.table.words()[word].clamp(1, 130));
+        let part = g.inner_box(channels, rows, columns);
+        let part = g.damaged(8, part);
+        let count = product(&[part.channels, part.rows, part.columns]).min(50000);
         let given = if g.one_in(8) { g.length_near(count) } else { count };
+        let old = g.any_elements(given);
         match call {
             2..=4 => {
-                let mut elements = g.elements(precision, given);
+                let mut elements = g.elements(layout.precision, given);
                 g.spoil(10, &mut elements);
                 if self.edit(slot, part, &elements) {
-                    let old = g.any_elements(given);
                     assert_eq!(self.read(slot, part, &old), elements, "read after edit: slot {slot} {part:?}");
                 }
             }
-            5..=6 => {
-                let old = g.any_elements(given);
-                self.read(slot, part, &old);
-            }
-            _ => self.position(slot, [part.channel, part.row, part.column]),
+            5..=6 => drop(self.read(slot, part, &old)),
+            _ => self.both.position(Part(self.table, slot, part), &[part.channel, part.row, part.column]),
         }
     }
 }
 
-/// What the calls of a list answer.
-const LISTS: &str =
-    "regions_edit: 0 1 2 3 4 5 6 7 8 9; regions_place: 0 1 2 3 4 8 9 10; regions_position: 0 1 2 3 4 8 9; regions_read: 0 1 2 3 4 5 6 8 9";
-
 #[test]
 fn lists_of_calls() {
-    let (mut g, mut session) = (Generator::new(20), Session::new());
-    for round in 0..5000 {
+    let (mut g, mut session) = session(20);
+    for round in 0..5500 {
         let width = if round % 25 == 0 { g.among(120, 200) } else { g.among(1, 100) };
         let [height, channels, precision] = [g.among(1, 5), g.among(1, 70), g.among(0, 2)];
-        let mut layout = g.layout(width, height, channels, precision);
+        let layout = g.layout(width, height, channels, precision);
         let exact = buffer_length(layout);
         let length = if round % 10 == 0 { g.length_near(exact) } else { exact };
-        g.damage::<7>(11, &mut layout);
-        let buffer = g.bytes(length);
-        session.empty(layout, buffer);
+        let table = session.both.empty(g.damaged(11, layout));
+        session.set(table, g.bytes(length));
         if round % 2 == 0 {
             // An early region, so that the list has something to edit.
             let [columns, rows] = [g.among(1, width), g.among(1, height)];
-            let _ = session.place(0, [width - columns, height - rows, columns, rows]);
+            session.place(0, [width - columns, height - rows, columns, rows]);
         }
-        for _ in 0..40 {
-            session.any_call(&mut g);
-        }
+        (0..40).for_each(|_| session.any_call(&mut g));
     }
-    session.both.expect(LISTS);
+    session.both.expect(
+        "regions_edit: 0 1 2 3 4 5 6 7 8 9; regions_empty: 0; regions_place: 0 1 2 3 4 8 9 10; \
+         regions_position: 0 1 2 3 4 8 9; regions_read: 0 1 2 3 4 5 6 8 9",
+    );
+}
+
+#[test]
+fn lists_of_calls_beside_the_plain_picture() {
+    let (mut g, mut session) = session(30);
+    for _ in 0..4200 {
+        let [width, height, channels, precision] = [g.among(1, 40), g.among(1, 5), g.among(1, 70), g.among(0, 2)];
+        let layout = g.layout(width, height, channels, precision);
+        let longer = g.pick(&[0, 1, 40]);
+        session.pack(layout, g.elements(precision, element_count(layout)), g.bytes(buffer_length(layout) + longer));
+        (0..40).for_each(|_| session.any_call(&mut g));
+    }
+    session.both.expect(
+        "cube_pack: 0; edit beside the plain picture: 0 5 6 7 8 9; place beside the plain picture: 0 8 9 10; \
+         read beside the plain picture: 0 5 6 8 9; regions_edit: 0 5 6 7 8 9; regions_empty: 0; regions_place: 0 8 9 10; \
+         regions_position: 0 8 9; regions_read: 0 5 6 8 9",
+    );
 }
 
 /// Tables of any words: placed words that are not 0 or 1, regions outside the cube, empty ones, sums past 32 bits.
 #[test]
 fn hand_made_tables() {
-    let (mut g, mut session) = (Generator::new(21), Session::new());
-    for _ in 0..12000 {
-        let mut layout = g.small_layout();
-        let exact = buffer_length(layout);
-        let Layout { width, height, .. } = layout;
-        g.damage::<7>(5, &mut layout);
-        let mut table = *reference::regions::empty(layout).words();
+    let (mut g, mut session) = session(21);
+    for _ in 0..13000 {
+        let layout = g.small_layout();
+        let mut table = *reference::regions::empty(g.damaged(5, layout)).words();
         for slot in table[7..].chunks_mut(5) {
-            let [column, row] = [g.among(0, width - 1), g.among(0, height - 1)];
-            let placed = g.pick(&[0, 0, 0, 1, 2, 1 << 31, u32::MAX]);
-            slot.copy_from_slice(&[placed, column, row, g.among(1, width - column), g.among(1, height - row)]);
+            let ElementBox { column, row, columns, rows, .. } = g.inner_box(1, layout.height, layout.width);
+            slot.copy_from_slice(&[g.pick(&[0, 0, 0, 1, 2, 1 << 31, u32::MAX]), column, row, columns, rows]);
             if g.one_in(3) {
-                for word in &mut slot[1..] {
-                    if g.one_in(2) {
-                        *word = g.pick(&EDGES);
-                    }
-                }
+                slot[1..].iter_mut().for_each(|word| *word = if g.one_in(2) { g.pick(&EDGES) } else { *word });
             }
         }
-        let length = g.length_near(exact);
-        (session.table, session.buffer) = (Table::from_words(table), g.bytes(length));
-        for _ in 0..12 {
-            session.any_call(&mut g);
-        }
+        let length = g.length_near(buffer_length(layout));
+        session.set(Table::from_words(table), g.bytes(length));
+        (0..12).for_each(|_| session.any_call(&mut g));
     }
-    session.both.expect(LISTS);
+    session.both.expect(
+        "regions_edit: 0 1 2 3 4 5 6 7 8 9; regions_place: 0 1 2 3 4 8 9 10; regions_position: 0 1 2 3 4 8 9; \
+         regions_read: 0 1 2 3 4 5 6 8 9",
+    );
 }
 
-/// A table of one layout, one of whose slots has these words.
-fn with_slot(layout: [u32; 7], slot: usize, words: [u32; 5]) -> Table {
-    let mut table = *reference::regions::empty(layout.into()).words();
-    table[7 + 5 * slot..12 + 5 * slot].copy_from_slice(&words);
-    Table::from_words(table)
-}
+/// The scope paper's frame.
+const FRAME: [u32; 7] = [3, 2, 40, 0, 128, 256, 0];
 
 /// Every pair of rectangles in a small cube, the second one also beside it.
 #[test]
 fn overlap_of_every_pair() {
-    let mut session = Session::new();
+    let (_, mut both) = start(26);
     for first in 0..4 * 3 * 4 * 3 {
         let [column, row, columns, rows] = [first % 4, first / 4 % 3, first / 12 % 4 + 1, first / 48 + 1];
         if column + columns > 4 || row + rows > 3 {
@@ -208,140 +191,94 @@ fn overlap_of_every_pair() {
         for second in 0..5 * 4 * 6 * 5 {
             let slot = second % 15;
             let other = if slot < 7 { 15 } else { 2 };
-            session.table = with_slot([4, 3, 2, 0, 128, 384, 0], other, [1, column, row, columns, rows]);
-            let _ = session.place(slot, [second % 5, second / 5 % 4, second / 20 % 6, second / 120]);
+            let mut table = with_slot([4, 3, 2, 0, 128, 384, 0].into(), other, [1, column, row, columns, rows]);
+            both.place(&mut table, slot, [second % 5, second / 5 % 4, second / 20 % 6, second / 120]);
         }
     }
-    session.both.expect("regions_place: 0 9 10");
+    both.expect("regions_place: 0 9 10");
 }
-
-/// The scope paper's frame.
-const FRAME: [u32; 7] = [3, 2, 40, 0, 128, 256, 0];
 
 /// A region already placed with words at the limits, and a placing inside the cube.
 #[test]
 fn overlap_without_wrapping() {
-    let mut session = Session::new();
+    let (_, mut both) = start(27);
     let words = [0, 1, 2, 3, 4, 1 << 31, u32::MAX - 1, u32::MAX];
-    for region in 0..8 * 8 * 8 * 8 {
-        let [column, row, columns, rows] = [0, 3, 6, 9].map(|bits| words[(region >> bits) % 8]);
-        for placed in [0, 1, 2, u32::MAX] {
-            let table = with_slot(FRAME, 0, [placed, column, row, columns, rows]);
-            session.table = table;
-            let _ = session.place(9, [1, 1, 1, 1]);
-            session.table = table;
-            let _ = session.place(1, [0, 0, 3, 1]);
-            session.position(0, [0, 0, 0]);
-        }
-    }
-    session.both.expect("regions_place: 0 10; regions_position: 0 8 9");
+    each!(column in words, row in words, columns in words, rows in words, placed in [0, 1, 2, u32::MAX] => {
+        let table = with_slot(FRAME.into(), 0, [placed, column, row, columns, rows]);
+        both.place(&mut table.clone(), 9, [1, 1, 1, 1]);
+        both.place(&mut table.clone(), 1, [0, 0, 3, 1]);
+        both.position(Part(table, 0, ElementBox::default()), &[0, 0, 0]);
+    });
+    both.expect("regions_place: 0 10; regions_position: 0 8 9");
 }
 
-/// The readings that the paper's words leave to a reader, each with its answer.
+/// The readings that the paper's words leave to a reader, each with its answer: of a placing beside words of slot 0, and of an edit of slot 0.
 #[test]
 fn readings() {
-    let place = |words, slot, region: [u32; 4]| number(&with_slot(FRAME, 0, words).place(slot, region.into()));
+    let (_, mut both) = start(28);
     let far = u32::MAX;
-    assert_eq!(place([1, far, 0, 4, 2], 1, [0, 0, 1, 1]), 0);
-    assert_eq!(place([1, 0, 0, far, far], 1, [0, 0, 1, 1]), 10);
-    assert_eq!(place([1, 0, 0, 0, 9], 1, [0, 0, 1, 1]), 0);
-    assert_eq!(place([1, far, 0, 4, 2], 0, [0, 0, 1, 1]), 8);
-    assert_eq!(place([0, 0, 0, 3, 2], 1, [0, 0, 1, 1]), 0);
-    assert_eq!(place([0; 5], 1, [0, 0, 0, 1]), 9);
-    assert_eq!(place([0; 5], 1, [0, 0, 1, 0]), 9);
-
-    let edit = |table: Table, part: [u32; 6], elements: &[i16], bytes: usize| {
-        let mut buffer = vec![9; bytes];
-        let answer = table.edit(0, part.into(), elements, &mut buffer);
-        assert!(buffer.iter().all(|&byte| byte == 9));
-        answer.map_or_else(|refusal| (refusal.number, refusal.fault), |()| (0, 0))
-    };
-    let inside = with_slot(FRAME, 0, [1, 0, 0, 2, 2]);
-    assert_eq!(edit(inside, [0, 0, 0, 1, 1, 1], &[1], 479), (5, 0));
-    assert_eq!(edit(inside, [1, 1, 0, 1, 1, 2], &[0, 200], 480), (7, 1));
-    assert_eq!(edit(inside, [far, 0, 0, 2, 1, 1], &[1, 2], 480), (9, 0));
-    assert_eq!(edit(with_slot(FRAME, 0, [1, 0, 0, 4, 2]), [0, 0, 0, 1, 1, 1], &[1], 480), (9, 0));
-    assert_eq!(edit(with_slot([3, 2, 40, 0, 128, 256, 1], 0, [0; 5]), [0, 0, 0, 1, 1, 1], &[1], 480), (4, 0));
-}
-
-/// Edits and reads of every width and channel count, from odd corners too.
-#[test]
-#[ignore = "long"]
-fn boxes_of_every_width_and_channel_count() {
-    let (mut g, mut session) = (Generator::new(22), Session::new());
-    each!(precision in 0..=2, columns in 1..=130, channels in 1..=70 => {
-        let [left, top, rows] = [g.among(0, 20), g.among(0, 1), g.among(1, 2)];
-        let [channel, row, column] = [g.among(0, 40), g.among(0, 1), g.among(0, 20)];
-        let region = [left, top, column + columns + g.among(0, 2), row + rows + g.among(0, 1)];
-        let depth = channel + channels + g.among(0, 3);
-        let width = left + region[2] + g.among(0, 2);
-        let layout = g.layout(width, top + region[3], depth, precision);
-        session.empty(layout, Vec::new());
-        let slot = g.among(0, 15);
-        assert!(session.place(slot, region).is_ok());
-        let part = ElementBox { channel, row, column, channels, rows, columns };
-        session.both.region_trip(&mut g, &session.table, slot, part);
-    });
-    session.both.expect("regions_edit: 0; regions_place: 0; regions_read: 0");
+    let places = [
+        ([1, far, 0, 4, 2], 1, [0, 0, 1, 1], 0),
+        ([1, 0, 0, far, far], 1, [0, 0, 1, 1], 10),
+        ([1, 0, 0, 0, 9], 1, [0, 0, 1, 1], 0),
+        ([1, far, 0, 4, 2], 0, [0, 0, 1, 1], 8),
+        ([0, 0, 0, 3, 2], 1, [0, 0, 1, 1], 0),
+        ([0; 5], 1, [0, 0, 0, 1], 9),
+        ([0; 5], 1, [0, 0, 1, 0], 9),
+    ];
+    for (words, slot, region, answer) in places {
+        both.place(&mut with_slot(FRAME.into(), 0, words), slot, region);
+        assert_eq!(number(&both.last), answer, "{words:?}");
+    }
+    let odd = [3, 2, 40, 0, 128, 256, 1];
+    let edits: [(_, _, _, &[i16], _, _); 5] = [
+        (FRAME, [1, 0, 0, 2, 2], [0, 0, 0, 1, 1, 1], &[1], 479, (5, 0)),
+        (FRAME, [1, 0, 0, 2, 2], [1, 1, 0, 1, 1, 2], &[0, 200], 480, (7, 1)),
+        (FRAME, [1, 0, 0, 2, 2], [far, 0, 0, 2, 1, 1], &[1, 2], 480, (9, 0)),
+        (FRAME, [1, 0, 0, 4, 2], [0, 0, 0, 1, 1, 1], &[1], 480, (9, 0)),
+        (odd, [0; 5], [0, 0, 0, 1, 1, 1], &[1], 480, (4, 0)),
+    ];
+    for (layout, words, part, elements, bytes, answer) in edits {
+        let left = both.write(Part(with_slot(layout.into(), 0, words), 0, part.into()), elements, &vec![9; bytes]);
+        assert_eq!(both.last.map_err(|refusal| (refusal.number, refusal.fault)), Err(answer), "{part:?}");
+        assert!(left.iter().all(|&byte| byte == 9));
+    }
+    both.expect("regions_edit: 4 5 7 9; regions_place: 0 8 9 10");
 }
 
 /// Positions past 32 bits, in regions at and beside the limits of large cubes.
 #[test]
 fn positions_in_large_cubes() {
-    let (mut g, mut session) = (Generator::new(25), Session::new());
+    let (mut g, mut both) = start(25);
     let layouts = [
         [8192, 8192, 8192, 1, 262144, 2147483648, 4294967264],
         [1, 1, 8192, 1, 32, 4294967264, 4294967264],
         [8192, 8191, 33, 0, 262176, 4294967264, 32],
         [1, 8192, 17, 2, 524288, 4294967264, 0],
     ];
-    for layout in layouts.map(Layout::from) {
+    each!(layout in layouts.map(Layout::from), _ in 0..2000 => {
         let Layout { width, height, channels, .. } = layout;
-        for _ in 0..2000 {
-            session.empty(layout, Vec::new());
-            let column = g.pick(&[0, width / 2, width - 1]);
-            let row = g.pick(&[0, height / 2, height - 1]);
-            let columns = g.pick(&[1, width / 2 + 1, width, u32::MAX]);
-            let rows = g.pick(&[1, height / 2 + 1, height, u32::MAX]);
-            let _ = session.place(0, [column, row, columns, rows]);
-            for _ in 0..4 {
-                let channel = g.pick(&[0, 1, channels / 2, channels - 1, channels]);
-                let row = g.pick(&[0, height / 2, rows - 1, rows]);
-                let column = g.pick(&[0, width / 2, columns - 1, columns]);
-                session.position(0, [channel, row, column]);
-            }
+        let mut table = both.empty(layout);
+        let [column, row] = [width, height].map(|size| g.pick(&[0, size / 2, size - 1]));
+        let [columns, rows] = [width, height].map(|size| g.pick(&[1, size / 2 + 1, size, u32::MAX]));
+        both.place(&mut table, 0, [column, row, columns, rows]);
+        for _ in 0..4 {
+            let channel = g.pick(&[0, 1, channels / 2, channels - 1, channels]);
+            let [row, column] = [(height, rows), (width, columns)].map(|(size, count)| g.pick(&[0, size / 2, count - 1, count]));
+            both.position(Part(table, 0, ElementBox::default()), &[channel, row, column]);
         }
-    }
-    session.both.expect("regions_place: 0 9; regions_position: 0 8 9");
-}
-
-/// One element out of range at every index of an edit.
-#[test]
-fn values_out_of_range_at_every_index() {
-    let (mut g, mut session) = (Generator::new(24), Session::new());
-    for precision in 0..=2 {
-        let layout = g.layout(40, 3, 36, precision);
-        let buffer = g.bytes(buffer_length(layout));
-        session.empty(layout, buffer);
-        assert!(session.place(3, [1, 1, 38, 2]).is_ok());
-        let part = ElementBox::from([1, 1, 2, 34, 1, 35]);
-        for at in 0..box_count(part) {
-            let mut elements = g.elements(precision, box_count(part));
-            elements[at] = g.pick(&OUTSIDE);
-            session.edit(3, part, &elements);
-        }
-    }
-    session.both.expect("regions_edit: 0 7; regions_place: 0");
+    });
+    both.expect("regions_empty: 0; regions_place: 0 9; regions_position: 0 8 9");
 }
 
 #[test]
 fn empty_tables() {
-    let (mut g, mut session) = (Generator::new(23), Session::new());
+    let (mut g, mut both) = start(23);
     for _ in 0..5000 {
         let words: [u32; 7] = std::array::from_fn(|_| g.pick(&EDGES));
-        session.empty(words.into(), Vec::new());
-        assert_eq!(session.table.layout(), words.into());
-        assert!((0..17).all(|slot| session.table.region(slot).is_none()));
+        let table = both.empty(words.into());
+        assert_eq!(table.layout(), words.into());
+        assert!((0..17).all(|slot| table.region(slot).is_none()));
     }
-    println!("regions_empty: 5000 cases");
+    both.expect("regions_empty: 0");
 }

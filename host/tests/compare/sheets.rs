@@ -5,79 +5,68 @@ use crate::draw::{Generator, EDGES};
 use crate::reference::{self, each};
 use olsketina::{Refusal, Row, Sheet};
 
-/// A sheet in progress, alike on both sides after every part, and the counts of the answers of its lines.
+/// A sheet in progress, alike on both sides after every part, the rows of its lines, and the counts of their answers.
 struct Session {
     sheet: Sheet,
+    rows: Vec<Row>,
     both: Both,
 }
 
+fn session(seed: u64) -> (Generator, Session) {
+    let (g, both) = start(seed);
+    (g, Session { sheet: reference::sheet::begin(), rows: Vec::new(), both })
+}
+
 impl Session {
-    fn new() -> Session {
-        Session { sheet: reference::sheet::begin(), both: Both::default() }
-    }
-
-    fn begin(&mut self) {
-        self.sheet = Sheet::begin();
-        assert_eq!(self.sheet, reference::sheet::begin());
-    }
-
-    /// Makes a call on both sides; gives how much was read, and the row.
-    fn both(
-        &mut self, part: &[u8], library: impl FnOnce(&mut Sheet) -> (usize, Option<Row>),
-        plain: impl FnOnce(&mut Sheet) -> (usize, Option<Row>),
-    ) -> (usize, Option<Row>) {
+    /// Feeds a part, or finishes, on both sides; gives how much was read.
+    fn call(&mut self, part: Option<&[u8]>) -> usize {
         let (before, mut theirs) = (self.sheet, self.sheet);
-        let shown = part.escape_ascii();
-        let case = format_args!("\"{shown}\" on {before:?}");
-        let given = library(&mut self.sheet);
-        same("bytes read, row", &[given], &[plain(&mut theirs)], case);
+        let (given, plain) = match part {
+            Some(part) => (self.sheet.feed(part), reference::sheet::feed(&mut theirs, part)),
+            None => ((0, self.sheet.finish()), (0, reference::sheet::finish(&mut theirs))),
+        };
+        let shown = part.map(<[u8]>::escape_ascii);
+        let case = format_args!("{shown:?} on {before:?}");
+        same("bytes read, row", &[given], &[plain], case);
         same("state", &self.sheet.state, &theirs.state, case);
         same("text", &self.sheet.text, &theirs.text, case);
         self.both.note("parts", 0);
-        if let Some(row) = given.1 {
+        if let (_, Some(row)) = given {
             self.both.note("lines", number(&row.answer));
             same("row's text", &row.text(), &reference::sheet::text(&row), case);
+            self.rows.push(row);
         }
-        given
+        given.0
     }
 
-    fn feed(&mut self, part: &[u8]) -> (usize, Option<Row>) {
-        self.both(part, |sheet| sheet.feed(part), |sheet| reference::sheet::feed(sheet, part))
-    }
-
-    fn finish(&mut self) -> Option<Row> {
-        self.both(b"", |sheet| (0, sheet.finish()), |sheet| (0, reference::sheet::finish(sheet))).1
-    }
-
-    /// Feeds a part until it is read; adds the rows.
-    fn feed_all(&mut self, mut part: &[u8], rows: &mut Vec<Row>) {
+    /// Feeds a part until it is read.
+    fn feed(&mut self, mut part: &[u8]) {
         while !part.is_empty() {
-            let (read, row) = self.feed(part);
-            rows.extend(row);
+            let read = self.call(Some(part));
             part = &part[read..];
         }
     }
 
-    /// A whole sheet in parts that end at these indices.
+    /// A whole sheet in parts that end at these indices, and at its end; gives its rows.
     fn whole(&mut self, input: &[u8], cuts: &[usize]) -> Vec<Row> {
-        let mut rows = Vec::new();
-        self.begin();
+        self.sheet = Sheet::begin();
+        assert_eq!(self.sheet, reference::sheet::begin());
+        self.rows.clear();
         let mut from = 0;
-        for &cut in cuts {
-            self.feed_all(&input[from..cut], &mut rows);
+        for &cut in cuts.iter().chain([&input.len()]) {
+            self.feed(&input[from..cut]);
             from = cut;
         }
-        self.feed_all(&input[from..], &mut rows);
-        rows.extend(self.finish());
-        rows
+        self.call(None);
+        self.rows.clone()
     }
 
-    /// A line on a sheet with the paper's frame and a stall; gives its answer.
-    fn line(&mut self, framed: &Sheet, line: &[u8]) -> u32 {
-        self.sheet = *framed;
-        let mut rows = Vec::new();
-        self.feed_all(&[line, b"\n"].concat(), &mut rows);
-        number(&rows[0].answer)
+    /// A line on a sheet; gives its answer.
+    fn line(&mut self, sheet: &Sheet, line: &[u8]) -> u32 {
+        self.sheet = *sheet;
+        self.rows.clear();
+        self.feed(&[line, b"\n"].concat());
+        number(&self.rows[0].answer)
     }
 }
 
@@ -88,9 +77,8 @@ const FRAME: &str = "frame\t3\t2\t40\t0\t128\t256\t0\n";
 
 /// A sheet that has read the paper's frame and a stall.
 fn framed() -> Sheet {
-    let mut session = Session::new();
-    session.feed_all(FRAME.as_bytes(), &mut Vec::new());
-    session.feed_all(b"stall\t1\t1\t0\t2\t1\n", &mut Vec::new());
+    let (_, mut session) = session(0);
+    session.feed(format!("{FRAME}stall\t1\t1\t0\t2\t1\n").as_bytes());
     session.sheet
 }
 
@@ -106,7 +94,7 @@ fn good_line(g: &mut Generator) -> Vec<u8> {
         1..=4 => ("stall", 6, vec![g.among(0, 4), g.among(0, 5), g.among(0, 2), g.among(1, 4), g.among(1, 2)]),
         _ => ("cell", 6, vec![g.among(0, 4), g.among(0, 20), g.among(0, 1), g.among(0, 2)]),
     };
-    g.damage_words(odds, &mut numbers);
+    g.damage(odds, &mut numbers);
     joined(name, &numbers)
 }
 
@@ -168,7 +156,7 @@ fn any_sheet(g: &mut Generator, lines: u64) -> Vec<u8> {
 
 #[test]
 fn whole_sheets() {
-    let (mut g, mut session) = (Generator::new(100), Session::new());
+    let (mut g, mut session) = session(100);
     for _ in 0..10000 {
         let lines = g.below(40);
         let input = any_sheet(&mut g, lines);
@@ -185,7 +173,7 @@ fn whole_sheets() {
 /// Each cut in two gives the rows of the whole; so do single bytes and parts of any length.
 #[test]
 fn sheets_in_parts() {
-    let (mut g, mut session) = (Generator::new(101), Session::new());
+    let (mut g, mut session) = session(101);
     for _ in 0..200 {
         let input = any_sheet(&mut g, 8);
         let rows = session.whole(&input, &[]);
@@ -205,7 +193,7 @@ fn sheets_in_parts() {
 /// Lines of every length around 120, of every filling byte, and very long ones; the next line is read as itself.
 #[test]
 fn long_lines() {
-    let mut session = Session::new();
+    let (_, mut session) = session(111);
     each!(length in (0..=130).chain([240, 241, 1000, 70000]), byte in [b'0', b'\t', b'x', 0, b'\r', 255], start in [&b""[..], b"frame\t", b"cell\t0\t0\t0\t0"] => {
         let mut line = start.to_vec();
         line.resize(start.len().max(length), byte);
@@ -221,7 +209,7 @@ fn long_lines() {
 /// The readings that the paper's words leave to a reader: the answers, line by line.
 #[test]
 fn readings() {
-    let mut session = Session::new();
+    let (_, mut session) = session(112);
     let mut answers = |input: &str| -> Vec<u32> {
         let rows = session.whole(input.as_bytes(), &[]);
         rows.iter().map(|row| number(&row.answer)).collect()
@@ -245,50 +233,49 @@ fn readings() {
     session.both.expect("lines: 0 1 2 8 9 24; parts: 0");
 }
 
+/// A state whose words after the first three are: whether there is a frame, then the table.
+fn state(framed: u32, layout: [u32; 7], mut slot: impl FnMut() -> [u32; 5]) -> [u32; 91] {
+    let mut state = [0; 91];
+    state[3] = framed;
+    state[4..11].copy_from_slice(&layout);
+    state[11..].chunks_mut(5).for_each(|words| words.copy_from_slice(&slot()));
+    state
+}
+
 /// States of any words, with a part of a record as the line in progress.
 #[test]
 fn hand_made_states() {
-    let (mut g, mut session) = (Generator::new(102), Session::new());
+    let (mut g, mut session) = session(102);
     for _ in 0..40000 {
-        let mut state: [u32; 91] = std::array::from_fn(|_| g.pick(&EDGES));
-        let mut text: [u8; 120] = std::array::from_fn(|_| g.word() as u8);
-        if !g.one_in(4) {
-            state[4..11].copy_from_slice(&<[u32; 7]>::from(g.layout(6, 3, 21, 0)));
-            for slot in state[11..].chunks_mut(5) {
-                let placed = g.pick(&[0, 0, 0, 0, 0, 1, 2, u32::MAX]);
-                slot.copy_from_slice(&[placed, g.among(0, 6), g.among(0, 3), g.among(0, 4), g.among(0, 2)]);
-            }
-        }
-        state[0] = g.pick(&[0, 1, u32::MAX - 1, u32::MAX]);
-        state[1] = g.pick(&[0, 1, u32::MAX]);
-        state[3] = g.pick(&[0, 1, 2, 1 << 31, u32::MAX]);
+        let framed = g.pick(&[0, 1, 2, 1 << 31, u32::MAX]);
+        let mut state = if g.one_in(4) {
+            state(framed, std::array::from_fn(|_| g.pick(&EDGES)), || std::array::from_fn(|_| g.pick(&EDGES)))
+        } else {
+            let placed = [0, 0, 0, 0, 0, 1, 2, u32::MAX];
+            state(framed, g.layout(6, 3, 21, 0).into(), || [g.pick(&placed), g.among(0, 6), g.among(0, 3), g.among(0, 4), g.among(0, 2)])
+        };
         let line = any_line(&mut g);
         let held = g.index(line.len() + 1).min(120);
         let mut rest = line[held..].to_vec();
+        let mut text: [u8; 120] = std::array::from_fn(|_| g.word() as u8);
+        text[..held].copy_from_slice(&line[..held]);
+        state[..3].copy_from_slice(&[g.pick(&[0, 1, u32::MAX - 1, u32::MAX]), g.pick(&[0, 1, u32::MAX]), held as u32]);
         if g.one_in(8) {
             state[2] = g.pick(&[0, 1, 119, 120, 121, 122, 5000, 1 << 31, u32::MAX - 1, u32::MAX]);
-            if g.one_in(2) {
-                rest.clear();
-            }
-        } else {
-            text[..held].copy_from_slice(&line[..held]);
-            state[2] = held as u32;
+            rest.truncate(g.pick(&[0, rest.len()]));
         }
-        session.sheet = Sheet { state, text };
-        let mut rows = Vec::new();
         match g.below(3) {
             0 => rest.push(b'\n'),
-            1 => {
-                rest.push(b'\n');
-                rest.extend(any_line(&mut g));
-            }
+            1 => rest.extend([b"\n", &any_line(&mut g)[..]].concat()),
             _ => {}
         }
-        session.feed_all(&rest, &mut rows);
+        session.sheet = Sheet { state, text };
+        session.feed(&rest);
         if g.one_in(2) {
-            let _ = session.feed(b"");
+            session.call(Some(b""));
         }
-        let _ = (session.finish(), session.finish());
+        session.call(None);
+        session.call(None);
     }
     session.both.expect(ANSWERS);
 }
@@ -296,18 +283,14 @@ fn hand_made_states() {
 /// An accepted frame on a state of other words: the words that already say so stay, every slot is empty.
 #[test]
 fn words_that_stay() {
-    let mut session = Session::new();
+    let (_, mut session) = session(105);
     let lines = [FRAME, "frame\t0\t2\t40\t0\t128\t256\t0\n", "stall\t15\t0\t0\t1\t1\n", "cell\t0\t0\t0\t0\n", "none\n", "part", ""];
     each!(framed in [0, 1, 2, u32::MAX], placed in [0, 1, 2, u32::MAX], line in lines => {
-        let mut state = [0; 91];
-        state[3] = framed;
-        state[4..11].copy_from_slice(&[3, 2, 40, 0, 128, 256, 0]);
-        for slot in state[11..].chunks_mut(5) {
-            slot.copy_from_slice(&[placed, 1, 1, 1, 1]);
-        }
+        let mut state = state(framed, [3, 2, 40, 0, 128, 256, 0], || [placed, 1, 1, 1, 1]);
         state[86] = 0;
         session.sheet = Sheet { state, text: [b'y'; 120] };
-        let _ = (session.feed(line.as_bytes()), session.finish());
+        session.call(Some(line.as_bytes()));
+        session.call(None);
     });
     session.both.expect("lines: 0 1 8 24; parts: 0");
 }
@@ -315,7 +298,7 @@ fn words_that_stay() {
 /// Records good and damaged, each on a sheet of its own.
 #[test]
 fn records() {
-    let (mut g, mut session) = (Generator::new(103), Session::new());
+    let (mut g, mut session) = session(103);
     let framed = framed();
     for _ in 0..200_000 {
         let mut line = good_line(&mut g);
@@ -351,7 +334,7 @@ fn texts() {
 /// Numbers at and past their limits, in every field of every record.
 #[test]
 fn numbers_in_every_field() {
-    let mut session = Session::new();
+    let (_, mut session) = session(114);
     let framed = framed();
     let numbers = "0 1 9 10 00 01 007 4294967295 4294967296 4294967299 4294967300 4300000000 5000000000 9999999999 04294967295 10000000000 \
         42949672950 18446744073709551615 18446744073709551616 18446744073709551617 340282366920938463463374607431768211456 -1 +1 1.0 0x1 1e3 ٣";

@@ -65,6 +65,10 @@ impl Cube {
     }
 }
 
+pub fn check(layout: Layout) -> Answer<()> {
+    checked(layout).map(|_| ())
+}
+
 pub fn extent(layout: Layout) -> Answer<u64> {
     checked(layout).map(|cube| cube.extent() as u64)
 }

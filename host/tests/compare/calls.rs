@@ -1,0 +1,159 @@
+//! The calls on settings and regions, each beside the reference's.
+
+use crate::both::{compare, same, Both};
+use crate::draw::{buffer_length, product, with_slot, Generator};
+use crate::reference::{cube, pixels, regions, weights};
+use olsketina::{ElementBox, Image, Layout, Region, Table, Weights};
+
+/// A setting with positions, and all but a picture's with elements and packed bytes.
+#[derive(Clone, Copy, Debug)]
+#[allow(clippy::large_enum_variant)]
+pub enum Setting {
+    Cube(Layout),
+    Kernels(Weights),
+    Picture(Image),
+    /// A box, counted from the corner of the region in a slot.
+    Part(Table, u32, ElementBox),
+}
+pub use Setting::{Cube, Kernels, Part, Picture};
+
+impl Setting {
+    /// How many there are of each index.
+    pub fn sizes(self) -> Vec<u32> {
+        match self {
+            Cube(of) => vec![of.channels, of.height, of.width],
+            Kernels(of) => vec![of.kernels, of.channels, of.rows, of.columns],
+            Picture(of) => vec![of.width, of.height],
+            Part(_, _, of) => vec![of.channels, of.rows, of.columns],
+        }
+    }
+
+    /// The precision, and the exact number of elements and bytes; of a setting that is not valid, any numbers.
+    pub fn needs(self) -> (u32, usize, usize) {
+        let (precision, bytes) = match self {
+            Cube(of) => (of.precision, buffer_length(of)),
+            Kernels(of) => (of.precision, weights::extent(of).unwrap_or(0) as usize),
+            Picture(of) => (of.precision, 0),
+            Part(table, ..) => (table.layout().precision, buffer_length(table.layout())),
+        };
+        (precision, product(&self.sizes()), bytes)
+    }
+}
+
+/// A box of a layout's cube, of any words: the region in slot 15 is the whole cube.
+pub fn in_cube(layout: Layout, part: ElementBox) -> Setting {
+    Part(with_slot(layout, 15, [1, 0, 0, layout.width, layout.height]), 15, part)
+}
+
+impl Both {
+    /// The calls that take a setting alone.
+    pub fn check(&mut self, setting: Setting) {
+        match setting {
+            Cube(of) => {
+                compare!(self, "layout_check", Layout::check, cube::check, of);
+                compare!(self, "layout_extent", Layout::extent, cube::extent, of);
+            }
+            Kernels(of) => {
+                compare!(self, "weights_count", Weights::count, weights::count, of);
+                compare!(self, "weights_extent", Weights::extent, weights::extent, of);
+            }
+            Picture(of) => drop(compare!(self, "pixels_setting", Image::check, pixels::check, of)),
+            Part(..) => {}
+        }
+    }
+
+    pub fn position(&mut self, setting: Setting, at: &[u32]) {
+        match (setting, at) {
+            (Cube(of), &[c, h, w]) => compare!(self, "cube_position", Layout::position, cube::position, of, c, h, w),
+            (Kernels(of), &[k, c, r, s]) => compare!(self, "weights_position", Weights::position, weights::position, of, k, c, r, s),
+            (Picture(of), &[x, y]) => compare!(self, "pixels_position", Image::position, pixels::position, of, x, y),
+            (Part(table, slot, _), &[c, h, w]) => {
+                compare!(self, "regions_position", Table::position, regions::position, &table, slot, c, h, w)
+            }
+            _ => panic!("no position {at:?} of {setting:?}"),
+        };
+    }
+
+    /// Packs, or edits; gives the bytes afterwards.
+    pub fn write(&mut self, setting: Setting, elements: &[i16], old: &[u8]) -> Vec<u8> {
+        match setting {
+            Cube(of) => compare!(self, "cube_pack", Layout::pack, cube::pack, of; elements, old),
+            Kernels(of) => compare!(self, "weights_pack", Weights::pack, weights::pack, of; elements, old),
+            Part(table, slot, part) => compare!(self, "regions_edit", Table::edit, regions::edit, &table, slot, part; elements, old),
+            Picture(_) => panic!("{setting:?} has no elements"),
+        }
+    }
+
+    /// Unpacks, or reads; gives the elements afterwards.
+    pub fn read(&mut self, setting: Setting, bytes: &[u8], old: &[i16]) -> Vec<i16> {
+        match setting {
+            Cube(of) => compare!(self, "cube_unpack", Layout::unpack, cube::unpack, of; bytes, old),
+            Kernels(of) => compare!(self, "weights_unpack", Weights::unpack, weights::unpack, of; bytes, old),
+            Part(table, slot, part) => compare!(self, "regions_read", Table::read, regions::read, &table, slot, part; bytes, old),
+            Picture(_) => panic!("{setting:?} has no elements"),
+        }
+    }
+
+    pub fn empty(&mut self, layout: Layout) -> Table {
+        let table = Table::empty(layout);
+        same("regions_empty", table.words(), regions::empty(layout).words(), format_args!("{layout:?}"));
+        self.note("regions_empty", 0);
+        table
+    }
+
+    /// Whether that was accepted.
+    pub fn place(&mut self, table: &mut Table, slot: u32, region: impl Into<Region>) -> bool {
+        let (before, mut plain, region) = (*table, *table, region.into());
+        let case = format_args!("slot {slot} {region:?} {before:?}");
+        self.same("regions_place", table.place(slot, region), regions::place(&mut plain, slot, region), case);
+        same("table", table.words(), plain.words(), case);
+        self.last.is_ok()
+    }
+
+    pub fn write_and_read(&mut self, setting: Setting, elements: &[i16], bytes: &[u8]) {
+        self.write(setting, elements, bytes);
+        self.read(setting, bytes, elements);
+    }
+
+    /// Writes over old contents and reads again, both accepted.
+    pub fn trip(&mut self, g: &mut Generator, setting: Setting) {
+        let (precision, count, length) = setting.needs();
+        let elements = g.elements(precision, count);
+        let longer = g.pick(&[0, 0, 1, 31, 64, 128]);
+        let old = g.bytes(length + longer);
+        let written = self.write(setting, &elements, &old);
+        let blank = g.any_elements(count);
+        assert_eq!(self.read(setting, &written, &blank), elements, "read after write: {setting:?}");
+        self.read(setting, &old, &blank);
+    }
+
+    /// Writes and reads with nothing, with as much as `fit` needs, which may be the setting before it was damaged, then with lengths beside that
+    /// and elements out of range; at most so many elements and bytes.
+    pub fn lengths(&mut self, g: &mut Generator, fit: Setting, setting: Setting, most: usize) {
+        let (precision, count, length) = fit.needs();
+        let [count, length] = [count.min(most), length.min(most)];
+        let near = [g.length_near(count), g.length_near(length)];
+        let mut elements = g.elements(precision, count.max(near[0]));
+        let bytes = g.bytes(length.max(near[1]));
+        self.write_and_read(setting, &[], &[]);
+        self.write_and_read(setting, &elements[..count], &bytes[..length]);
+        g.spoil(3, &mut elements);
+        self.write_and_read(setting, &elements[..near[0]], &bytes[..near[1]]);
+    }
+
+    /// Checks a setting; then positions in it, at its last index and past it.
+    pub fn checks(&mut self, g: &mut Generator, setting: Setting) {
+        self.check(setting);
+        let sizes = setting.sizes();
+        let inside: Vec<u32> = sizes.iter().map(|&size| g.among(0, size.max(1) - 1)).collect();
+        let last: Vec<u32> = sizes.iter().map(|size| size.wrapping_sub(1)).collect();
+        let mut past = [last.clone(), last.clone()];
+        for at in &mut past {
+            let index = g.index(at.len());
+            at[index] = g.pick(&[sizes[index], 32, 8192, u32::MAX]);
+        }
+        for at in [&inside, &last, &past[0], &past[1]] {
+            self.position(setting, at);
+        }
+    }
+}
