@@ -34,53 +34,37 @@ fn c_number(number: &str) -> &'static str {
     NUMBERS.iter().find(|(source, _)| *source == number).unwrap_or_else(|| panic!("no C type for {number}")).1
 }
 
-/// The C parameters that a parameter passes as: name, type, and length where it is an array.
-fn c_parameters(parameter: &Parameter) -> Vec<(String, String, Option<&str>)> {
-    // `box` is a word of the language of the sources.
-    let name = if parameter.name == "b" { "box".to_string() } else { parameter.name.clone() };
-    let number = c_number(&parameter.number);
-    let lent = format!("{}{number} *", if parameter.mutable { "" } else { "const " });
-    match &parameter.shape {
-        Shape::Value => vec![(name, number.to_string(), None)],
-        Shape::One => vec![(name, lent, None)],
-        Shape::Array(length) => vec![(name, lent, Some(length))],
-        Shape::Slice => vec![(name.clone(), lent, None), (name + "_len", "size_t".to_string(), None)],
-    }
-}
-
-fn all_parameters(function: &Function) -> Vec<(String, String, Option<&str>)> {
-    function.parameters.iter().flat_map(c_parameters).collect()
-}
-
-/// An expression of the sources' constants, which the C file has under the names `SOURCE_..`.
-fn c_expression(text: &str) -> String {
-    let mut c = String::new();
-    for (at, letter) in text.char_indices() {
-        let before = text[..at].chars().next_back();
-        if letter.is_ascii_uppercase() && !before.is_some_and(|before| before.is_alphanumeric() || before == '_') {
-            c += "SOURCE_";
+/// The C parameters of a function: name, type, and length where it is an array.
+fn c_parameters(function: &Function) -> Vec<(String, String, Option<&String>)> {
+    let passed = function.parameters.iter().map(|Parameter { name, shape, mutable, number }| {
+        // `box` is a word of the language of the sources.
+        let name = if name == "b" { "box".to_string() } else { name.clone() };
+        let number = c_number(number);
+        let lent = format!("{}{number} *", if *mutable { "" } else { "const " });
+        match shape {
+            Shape::Value => vec![(name, number.to_string(), None)],
+            Shape::One => vec![(name, lent, None)],
+            Shape::Array(length) => vec![(name, lent, Some(length))],
+            Shape::Slice => vec![(name.clone(), lent, None), (name + "_len", "size_t".to_string(), None)],
         }
-        c.push(letter);
-    }
-    c
+    });
+    passed.flatten().collect()
 }
 
-/// The C file of typed function pointers, constants, array lengths, and the words of settings in the order of the Rust library.
+/// The C file of typed function pointers, constants (under their own names), array lengths, and the words of settings in the order of the Rust
+/// library.
 fn c_file(exports: &[Exports], lengths: &[(String, String)]) -> String {
     let mut text =
         "#include \"olsketina.h\"\n#ifdef __cplusplus\n#define CHECK static_assert\n#else\n#define CHECK _Static_assert\n#endif\n"
             .to_string();
     for (name, value) in exports.iter().flat_map(|exports| &exports.constants) {
-        text += &format!(
-            "#undef SOURCE_{name}\n#define SOURCE_{name} ({})\nCHECK(SOURCE_{name} == OLSKETINA_{name}, \"{name}\");\n",
-            c_expression(value)
-        );
+        text += &format!("#undef {name}\n#define {name} ({value})\nCHECK({name} == OLSKETINA_{name}, \"{name}\");\n");
     }
     for function in exports.iter().flat_map(|exports| &exports.functions) {
         let name = &function.name;
-        let types: Vec<String> = all_parameters(function).into_iter().map(|(_, kind, _)| kind).collect();
-        let result = function.result.as_deref().map_or("void", c_number);
+        let types: Vec<String> = c_parameters(function).into_iter().map(|(_, kind, _)| kind).collect();
         let types = if types.is_empty() { "void".to_string() } else { types.join(", ") };
+        let result = function.result.as_deref().map_or("void", c_number);
         text += &format!("{result} (*check_{name})({types}) = {name};\n");
     }
     let slot = [&["placed"], Region::WORDS].concat();
@@ -103,78 +87,49 @@ fn c_file(exports: &[Exports], lengths: &[(String, String)]) -> String {
         }
     }
     for (source, header) in lengths {
-        text += &format!("CHECK(({}) == ({header}), \"{header}\");\n", c_expression(source));
+        text += &format!("CHECK(({source}) == ({header}), \"{header}\");\n");
     }
     text
 }
 
-/// Runs a compiler on some text.
-fn compile(folder: &Path, compiler: &str, arguments: &[&str], text: &str) -> Result<Vec<u8>, String> {
-    let file = folder.join("check.c");
-    fs::write(&file, text).expect("written");
-    let output = Command::new(compiler).args(arguments).arg("-I").arg(folder).arg(file).output();
+/// A folder of this name with a header in it.
+fn folder_with(name: &str, header: &str) -> PathBuf {
+    let folder = PathBuf::from(env!("CARGO_TARGET_TMPDIR")).join(name);
+    fs::create_dir_all(&folder).expect("a folder");
+    fs::write(folder.join("olsketina.h"), header).expect("written");
+    folder
+}
+
+/// Runs a compiler on some text, in a folder.
+fn compile(folder: &Path, compiler: &str, arguments: &[&str], text: &str) -> Result<String, String> {
+    fs::write(folder.join("check.c"), text).expect("written");
+    let output = Command::new(compiler).args(arguments).args(["-I", ".", "check.c"]).current_dir(folder).output();
     let output = output.map_err(|error| format!("{compiler}: {error}"))?;
-    if output.status.success() {
-        Ok(output.stdout)
-    } else {
-        Err(String::from_utf8_lossy(&output.stderr).into_owned())
-    }
+    let [printed, errors] = [output.stdout, output.stderr].map(|text| String::from_utf8_lossy(&text).into_owned());
+    output.status.success().then_some(printed).ok_or(format!("{compiler}: {errors}"))
 }
 
 /// A function's name, and each parameter's name and length.
 type Declared = (String, Vec<(String, Option<String>)>);
 
-/// The functions that a header declares, not those that it defines.
+/// The functions that a header declares, and any that its definitions call.
 fn declared(preprocessed: &str) -> Vec<Declared> {
-    let mut text = String::new();
-    let mut depth = 0;
-    for letter in preprocessed.chars() {
-        match letter {
-            '{' => depth += 1,
-            '}' => {
-                depth -= 1;
-                text.push(';');
-            }
-            _ if depth == 0 => text.push(letter),
-            _ => {}
-        }
-    }
     let mut functions = Vec::new();
-    for declaration in text.split(';').filter(|text| !text.trim_start().starts_with("static")) {
+    for declaration in preprocessed.split([';', '{', '}']).filter(|text| !text.trim_start().starts_with("static")) {
         let Some((head, rest)) = declaration.find("olsketina_").map(|at| declaration.split_at(at)) else { continue };
         let Some((name, parameters)) = rest.split_once('(') else { continue };
         assert!(!head.contains("typedef"), "no type: {declaration}");
         let parameters = parameters.trim_end().strip_suffix(')').expect("the parameters end");
-        let named = split(parameters).into_iter().filter(|parameter| parameter.trim() != "void").map(|parameter| {
-            let (before, length) = match parameter.split_once('[') {
-                Some((before, length)) => (before, Some(length.trim_end().trim_end_matches(']'))),
-                None => (parameter.as_str(), None),
-            };
+        let named = parameters.split(',').filter(|parameter| parameter.trim() != "void").map(|parameter| {
+            let (before, length) = parameter.split_once('[').map_or((parameter, None), |(before, length)| (before, Some(length)));
             let name = before.trim().rsplit(|letter: char| !letter.is_alphanumeric() && letter != '_').next();
-            let length = length.map(|length| length.trim().trim_start_matches("static").trim().to_string());
+            let length =
+                length.map(|length| length.trim_end().trim_end_matches(']').trim().trim_start_matches("static").trim().to_string());
             (name.unwrap_or("").to_string(), length)
         });
         functions.push((name.trim().to_string(), named.collect()));
     }
     functions
-}
-
-/// A list at its outermost commas.
-fn split(list: &str) -> Vec<String> {
-    let mut parts = vec![String::new()];
-    let mut depth = 0;
-    for letter in list.chars() {
-        depth += match letter {
-            '(' | '[' => 1,
-            ')' | ']' => -1,
-            _ => 0,
-        };
-        match letter {
-            ',' if depth == 0 => parts.push(String::new()),
-            _ => parts.last_mut().expect("a part").push(letter),
-        }
-    }
-    parts
 }
 
 const STRICT: [&str; 5] = ["-Wall", "-Wextra", "-pedantic", "-Werror", "-fsyntax-only"];
@@ -188,11 +143,8 @@ fn compilers() -> Vec<(&'static str, [&'static str; 2])> {
 
 /// Everything that is checked of a header; says what fails.
 fn check(header: &str, exports: &[Exports], name: &str) -> Result<(), String> {
-    let folder = PathBuf::from(env!("CARGO_TARGET_TMPDIR")).join(name);
-    fs::create_dir_all(&folder).expect("a folder");
-    fs::write(folder.join("olsketina.h"), header).expect("written");
-    let preprocessed = compile(&folder, "cc", &["-std=c11", "-E", "-P", "-x", "c"], "#include \"olsketina.h\"\n")?;
-    let declared = declared(&String::from_utf8_lossy(&preprocessed));
+    let folder = folder_with(name, header);
+    let declared = declared(&compile(&folder, "cc", &["-std=c11", "-E", "-P", "-x", "c"], "#include \"olsketina.h\"\n")?);
     let functions: Vec<&Function> = exports.iter().flat_map(|exports| &exports.functions).collect();
     let mut lengths = Vec::new();
     for &function in &functions {
@@ -200,24 +152,19 @@ fn check(header: &str, exports: &[Exports], name: &str) -> Result<(), String> {
         let Some((_, parameters)) = declared.iter().find(|(declared, _)| declared == name) else {
             return Err(format!("{name} is not in the header"));
         };
-        let expected = all_parameters(function);
-        if !expected.iter().map(|(name, ..)| name).eq(parameters.iter().map(|(name, _)| name)) {
+        let expected = c_parameters(function);
+        let shapes = expected.iter().map(|(name, _, length)| (name, length.is_some()));
+        if !shapes.eq(parameters.iter().map(|(name, length)| (name, length.is_some()))) {
             return Err(format!("{name}: the parameters {parameters:?} are not {expected:?}"));
         }
-        for ((_, _, source), (parameter, header)) in expected.iter().zip(parameters) {
-            match (source, header) {
-                (Some(source), Some(header)) => lengths.push((source.to_string(), header.clone())),
-                (None, None) => {}
-                _ => return Err(format!("{name}: {parameter} has a length on one side alone")),
-            }
-        }
+        let pairs = expected.iter().zip(parameters).map(|((_, _, source), (_, header))| source.zip(header.clone()));
+        lengths.extend(pairs.flatten().map(|(source, header)| (source.to_string(), header)));
     }
     if let Some((name, _)) = declared.iter().find(|(name, _)| !functions.iter().any(|function| function.name == *name)) {
         return Err(format!("{name} is in the header alone"));
     }
     for (compiler, [language, standard]) in compilers() {
-        let arguments = [&STRICT[..], &[standard, "-x", language]].concat();
-        compile(&folder, compiler, &arguments, &c_file(exports, &lengths)).map_err(|error| format!("{compiler}: {error}"))?;
+        compile(&folder, compiler, &[&STRICT[..], &[standard, "-x", language]].concat(), &c_file(exports, &lengths))?;
     }
     Ok(())
 }
@@ -269,7 +216,7 @@ fn signatures_are_read() {
     );
     let c = c_file(&exports, &[("2 * N".to_string(), "8".to_string())]);
     assert!(c.contains("double (*check_f)(const float *, size_t, double *, float, size_t *) = f;"), "{c}");
-    assert!(c.contains("CHECK((2 * SOURCE_N) == (8), \"8\");"), "{c}");
+    assert!(c.contains("CHECK((2 * N) == (8), \"8\");"), "{c}");
 }
 
 /// The archives define the sources' functions, and no other name.
@@ -292,14 +239,11 @@ fn the_archives_have_the_names_of_the_sources() {
 /// The header's sentences and names of the refusals are those of the Rust library.
 #[test]
 fn refusals_are_the_same() {
-    let folder = PathBuf::from(env!("CARGO_TARGET_TMPDIR")).join("refusals");
-    fs::create_dir_all(&folder).expect("a folder");
-    fs::write(folder.join("olsketina.h"), header()).expect("written");
-    let program = folder.join("sentences");
+    let folder = folder_with("refusals", &header());
     let text =
         "#include <stdio.h>\n#include \"olsketina.h\"\nint main(void) { for (uint32_t i = 0; i < 40; i++) puts(olsketina_sentence(i)); }\n";
-    compile(&folder, "cc", &["-std=c11", "-o", &program.display().to_string(), "-x", "c"], text).expect("compiles");
-    let output = Command::new(&program).output().expect("runs").stdout;
+    compile(&folder, "cc", &["-std=c11", "-o", "sentences", "-x", "c"], text).expect("compiles");
+    let output = Command::new(folder.join("sentences")).output().expect("runs").stdout;
     let output = String::from_utf8(output).expect("text");
     for (line, number) in output.lines().zip(0..).skip(1) {
         assert_eq!(line, olsketina::Refusal { number, fault: 0 }.sentence(), "{number}");
