@@ -1,6 +1,7 @@
 //! A small generator of pseudorandom numbers, and the settings and lengths that the tests draw from it.
 
-use crate::reference::{self, each};
+use crate::reference::regions::{self, SLOT};
+use crate::reference::{cube, each};
 use olsketina::{ElementBox, Layout, Table};
 
 /// Words at and beside the limits.
@@ -74,10 +75,7 @@ impl Generator {
     }
 
     pub fn bytes(&mut self, length: usize) -> Vec<u8> {
-        let mut bytes = Vec::with_capacity(length + 8);
-        while bytes.len() < length {
-            bytes.extend(self.word().to_le_bytes());
-        }
+        let mut bytes: Vec<u8> = (0..length.div_ceil(8)).flat_map(|_| self.word().to_le_bytes()).collect();
         bytes.truncate(length);
         bytes
     }
@@ -89,11 +87,8 @@ impl Generator {
 
     /// Elements that a precision takes, the ends of its range among them.
     pub fn elements(&mut self, precision: u32, count: usize) -> Vec<i16> {
-        let mut elements = self.any_elements(count);
-        if precision == 0 {
-            elements.iter_mut().for_each(|element| *element = i16::from(*element as i8));
-        }
-        elements
+        let held = |element| if precision == 0 { i16::from(element as i8) } else { element };
+        self.any_elements(count).into_iter().map(held).collect()
     }
 
     /// A valid layout: its lines and surfaces may have gaps after them, and its start may not be 0.
@@ -130,40 +125,46 @@ impl Generator {
         }
     }
 
+    /// A table of any words, those of a valid layout or of a damaged one: placed words that are not 0 or 1, regions that are inside, outside the cube,
+    /// empty, past 32 bits.
+    pub fn any_table(&mut self, layout: Layout, odds: u64) -> Table {
+        let mut table = regions::empty(self.damaged(odds, layout));
+        for slot in 0..16 {
+            let placed = self.pick(&[0, 0, 0, 1, 2, 1 << 31, u32::MAX]);
+            let ElementBox { column, row, columns, rows, .. } = self.inner_box(1, layout.height, layout.width);
+            let mut words = [placed, column, row, columns, rows];
+            if self.one_in(3) {
+                words[1..].iter_mut().for_each(|word| *word = if self.one_in(2) { self.pick(&EDGES) } else { *word });
+            }
+            table = regions::with_slot(&table, slot, words);
+        }
+        table
+    }
+
     /// The exact length most often, else one that is short, longer or 0.
     pub fn length_near(&mut self, exact: usize) -> usize {
-        match self.below(12) {
-            0 => exact.saturating_sub(1),
-            1 => exact + 1,
-            2 => 0,
-            3 => exact + 77,
-            4 => exact.saturating_sub(32),
-            5 => exact / 2,
-            _ => exact,
-        }
+        let [one_short, atom_short] = [1, 32].map(|short| exact.saturating_sub(short));
+        let other = self.pick(&[one_short, exact + 1, 0, exact + 77, atom_short, exact / 2]);
+        self.pick(&[exact, other])
     }
 
     /// Once in `odds` times puts numbers past the int8 range at one to three indices.
     pub fn spoil(&mut self, odds: u64, elements: &mut [i16]) {
         let changes = if !elements.is_empty() && self.one_in(odds) { self.among(1, 3) } else { 0 };
         for _ in 0..changes {
-            let at = match self.below(4) {
-                0 => 0,
-                1 => elements.len() - 1,
-                _ => self.index(elements.len()),
-            };
+            let any = self.index(elements.len());
+            let at = self.pick(&[0, elements.len() - 1, any, any]);
             elements[at] = self.pick(&[128, -129, 255, 256, i16::MAX, i16::MIN]);
         }
     }
 
     /// A box inside a cube of these sizes.
     pub fn inner_box(&mut self, channels: u32, rows: u32, columns: u32) -> ElementBox {
-        let [mut first, mut count] = [[0; 3]; 2];
-        for (at, size) in [channels, rows, columns].into_iter().enumerate() {
-            first[at] = self.among(0, size - 1);
-            count[at] = self.among(1, size - first[at]);
-        }
-        let ([channel, row, column], [channels, rows, columns]) = (first, count);
+        let spans = [channels, rows, columns].map(|size| {
+            let first = self.among(0, size - 1);
+            [first, self.among(1, size - first)]
+        });
+        let [[channel, channels], [row, rows], [column, columns]] = spans;
         ElementBox { channel, row, column, channels, rows, columns }
     }
 }
@@ -175,7 +176,7 @@ pub fn dense(width: u32, height: u32, channels: u32, precision: u32) -> Layout {
 
 /// How long a buffer a cube needs: start plus extent. Of a layout that is not valid, its start.
 pub fn buffer_length(layout: Layout) -> usize {
-    layout.start as usize + reference::cube::extent(layout).unwrap_or(0) as usize
+    layout.start as usize + cube::extent(layout).unwrap_or(0) as usize
 }
 
 pub fn product(sizes: &[u32]) -> usize {
@@ -187,11 +188,9 @@ pub fn element_count(layout: Layout) -> usize {
     product(&[layout.width, layout.height, layout.channels])
 }
 
-/// The table of a layout, any words, with one slot's words: placed, then the region's.
-pub fn with_slot(layout: Layout, slot: usize, words: [u32; 5]) -> Table {
-    let mut table = *reference::regions::empty(layout).words();
-    table[7 + 5 * slot..12 + 5 * slot].copy_from_slice(&words);
-    Table::from_words(table)
+/// The table of a layout, any words, with one slot's words.
+pub fn with_slot(layout: Layout, slot: usize, words: [u32; SLOT]) -> Table {
+    regions::with_slot(&regions::empty(layout), slot, words)
 }
 
 /// The box of all elements.

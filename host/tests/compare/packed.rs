@@ -67,27 +67,19 @@ fn boxes_from_every_channel_and_column() {
     both.expect("regions_edit: 0; regions_empty: 0; regions_place: 0; regions_read: 0");
 }
 
+/// Every small kernel, kernels and channels around groups and blocks, and some large ones.
 #[test]
-#[ignore = "long"]
-fn kernels_and_channels_around_groups_and_blocks() {
+fn weights_of_many_sizes() {
     let (mut g, mut both) = start(40);
-    let some_kernels = [1, 2, 3, 7, 8, 9, 15, 16, 17, 18, 31, 32, 33, 34, 47, 48, 49, 63, 64, 65];
-    let some_channels = [1, 2, 3, 8, 31, 32, 33, 62, 63, 64, 65, 66, 96, 127, 128, 129, 130, 192, 193];
-    each!(precision in 0..=2, kernels in some_kernels, channels in some_channels, _ in 0..6 => {
-        let weights = Kernels([kernels, channels, g.among(1, 5), g.among(1, 5), precision].into());
-        both.checks(&mut g, weights);
-        both.trip(&mut g, weights);
-    });
-    both.expect("weights_count: 0; weights_extent: 0; weights_pack: 0; weights_position: 0 9; weights_unpack: 0");
-}
-
-#[test]
-fn every_small_kernel_and_some_large_ones() {
-    let (mut g, mut both) = start(41);
     let mut sizes =
         vec![[3, 65, 32, 32], [17, 3, 32, 1], [33, 66, 1, 32], [8192, 1, 1, 1], [1, 8192, 2, 1], [35, 8192, 1, 1], [8192, 17, 1, 2]];
     each!(rows in 1..=5, columns in 1..=5, kernels in [1, 5, 16, 17, 32, 33], channels in [1, 5, 63, 64, 65] => {
         sizes.push([kernels, channels, rows, columns]);
+    });
+    let some_kernels = [1, 2, 3, 7, 8, 9, 15, 16, 17, 18, 31, 32, 33, 34, 47, 48, 49, 63, 64, 65];
+    let some_channels = [1, 2, 3, 8, 31, 32, 33, 62, 63, 64, 65, 66, 96, 127, 128, 129, 130, 192, 193];
+    each!(kernels in some_kernels, channels in some_channels, _ in 0..6 => {
+        sizes.push([kernels, channels, g.among(1, 5), g.among(1, 5)]);
     });
     each!(precision in 0..=2, &[kernels, channels, rows, columns] in &sizes => {
         let weights = Kernels(Weights { kernels, channels, rows, columns, precision });

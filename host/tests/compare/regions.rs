@@ -4,7 +4,7 @@ use crate::both::{number, same, start, Both};
 use crate::calls::{Cube, Part};
 use crate::draw::{buffer_length, element_count, product, with_slot, Generator, EDGES};
 use crate::plain_picture::PlainPicture;
-use crate::reference::{self, each};
+use crate::reference::each;
 use olsketina::{Answer, ElementBox, Layout, Region, Table};
 
 /// A table and a buffer, alike on both sides after every call, and the cases compared. The plain picture, where there is one, is fed each call.
@@ -89,9 +89,8 @@ impl Session {
         // A byte short, a buffer refuses edits and reads, and nothing else.
         let short = self.picture.is_some() && g.one_in(20);
         self.lent = if short { buffer_length(layout) - 1 } else { self.buffer.len() };
-        // Inside the slot's region most often, placed or not.
-        let at = 7 + 5 * (slot % 16) as usize;
-        let [channels, columns, rows] = [2, at + 3, at + 4].map(|word| self.table.words()[word].clamp(1, 130));
+        let Region { columns, rows, .. } = self.table.region(slot).unwrap_or_default();
+        let [channels, rows, columns] = [layout.channels, rows, columns].map(|size| size.clamp(1, 130));
         let part = g.inner_box(channels, rows, columns);
         let part = g.damaged(8, part);
         let count = product(&[part.channels, part.rows, part.columns]).min(50000);
@@ -152,22 +151,13 @@ fn lists_of_calls_beside_the_plain_picture() {
     );
 }
 
-/// Tables of any words: placed words that are not 0 or 1, regions outside the cube, empty ones, sums past 32 bits.
 #[test]
-fn hand_made_tables() {
+fn tables_of_any_words() {
     let (mut g, mut session) = session(21);
     for _ in 0..13000 {
         let layout = g.small_layout();
-        let mut table = *reference::regions::empty(g.damaged(5, layout)).words();
-        for slot in table[7..].chunks_mut(5) {
-            let ElementBox { column, row, columns, rows, .. } = g.inner_box(1, layout.height, layout.width);
-            slot.copy_from_slice(&[g.pick(&[0, 0, 0, 1, 2, 1 << 31, u32::MAX]), column, row, columns, rows]);
-            if g.one_in(3) {
-                slot[1..].iter_mut().for_each(|word| *word = if g.one_in(2) { g.pick(&EDGES) } else { *word });
-            }
-        }
         let length = g.length_near(buffer_length(layout));
-        session.set(Table::from_words(table), g.bytes(length));
+        session.set(g.any_table(layout, 5), g.bytes(length));
         (0..12).for_each(|_| session.any_call(&mut g));
     }
     session.both.expect(

@@ -1,9 +1,9 @@
 //! Sheets: whole ones and parts of them, records of every kind, states of any words.
 
 use crate::both::{number, same, start, Both};
-use crate::draw::{Generator, EDGES};
+use crate::draw::{with_slot, Generator, EDGES};
 use crate::reference::{self, each};
-use olsketina::{Refusal, Row, Sheet};
+use olsketina::{raw, Refusal, Row, Sheet, Table};
 
 /// A sheet in progress, alike on both sides after every part, the rows of its lines, and the counts of their answers.
 struct Session {
@@ -87,22 +87,19 @@ fn joined(name: &str, numbers: &[u32]) -> Vec<u8> {
     format!("{name}{}", fields.concat()).into_bytes()
 }
 
-/// A readable record, whose numbers are right most often.
-fn good_line(g: &mut Generator) -> Vec<u8> {
+/// A record, whose numbers are right most often; damaged one of these numbers of times.
+fn any_line(g: &mut Generator, damages: &[u64]) -> Vec<u8> {
     let (name, odds, mut numbers) = match g.below(8) {
         0 => ("frame", 2, <[u32; 7]>::from(g.small_layout()).to_vec()),
         1..=4 => ("stall", 6, vec![g.among(0, 4), g.among(0, 5), g.among(0, 2), g.among(1, 4), g.among(1, 2)]),
         _ => ("cell", 6, vec![g.among(0, 4), g.among(0, 20), g.among(0, 1), g.among(0, 2)]),
     };
     g.damage(odds, &mut numbers);
-    joined(name, &numbers)
-}
-
-/// A line of any kind, unreadable ones among them.
-fn any_line(g: &mut Generator) -> Vec<u8> {
-    let mut line = good_line(g);
-    if g.one_in(3) {
-        damage_line(g, &mut line);
+    let mut line = joined(name, &numbers);
+    for _ in 0..g.pick(damages) {
+        if !line.is_empty() {
+            damage_line(g, &mut line);
+        }
     }
     line
 }
@@ -119,15 +116,9 @@ fn damage_line(g: &mut Generator, line: &mut Vec<u8>) {
         6 => line.extend(b"\t0"),
         7 => line.resize(g.between(119, 124) as usize, b'7'),
         8 => line.resize(g.between(125, 400) as usize, b'\t'),
-        9 => {
-            let tab = line.iter().position(|&byte| byte == b'\t').unwrap_or(at);
-            line.insert((tab + 1).min(line.len()), b'0');
-        }
-        10 => {
-            while line.last().is_some_and(u8::is_ascii_digit) {
-                line.pop();
-            }
-        }
+        // A zero before the first number; no last number.
+        9 => line.insert(line.iter().position(|&byte| byte == b'\t').map_or(at, |tab| tab + 1), b'0'),
+        10 => line.truncate(line.iter().rposition(|byte| !byte.is_ascii_digit()).map_or(0, |last| last + 1)),
         11 => line.insert(0, g.pick(b"\t fsc")),
         12 => line[0] = line[0].to_ascii_uppercase(),
         _ => line.extend(g.pick(&[&b"4294967296"[..], b"00", b"9", b"\t4294967295"])),
@@ -135,23 +126,14 @@ fn damage_line(g: &mut Generator, line: &mut Vec<u8>) {
 }
 
 /// Lines that end in newlines; the last one may lack its own.
-fn any_sheet(g: &mut Generator, lines: u64) -> Vec<u8> {
-    let mut sheet = Vec::new();
+fn any_sheet(g: &mut Generator, count: u64) -> Vec<u8> {
+    let mut lines = Vec::new();
     if !g.one_in(4) {
         let precision = g.among(0, 2);
-        sheet.extend(joined("frame", &<[u32; 7]>::from(g.layout(6, 3, 21, precision))));
-        sheet.push(b'\n');
+        lines.push(joined("frame", &<[u32; 7]>::from(g.layout(6, 3, 21, precision))));
     }
-    for _ in 0..lines {
-        sheet.extend(any_line(g));
-        sheet.push(b'\n');
-    }
-    match g.below(4) {
-        0 => drop(sheet.pop()),
-        1 => sheet.push(b'\n'),
-        _ => {}
-    }
-    sheet
+    lines.extend((0..count).map(|_| any_line(g, &[0, 0, 1])));
+    [lines.join(&b'\n'), g.pick(&[&b""[..], b"\n", b"\n", b"\n\n"]).to_vec()].concat()
 }
 
 #[test]
@@ -233,13 +215,10 @@ fn readings() {
     session.both.expect("lines: 0 1 2 8 9 24; parts: 0");
 }
 
-/// A state whose words after the first three are: whether there is a frame, then the table.
-fn state(framed: u32, layout: [u32; 7], mut slot: impl FnMut() -> [u32; 5]) -> [u32; 91] {
-    let mut state = [0; 91];
-    state[3] = framed;
-    state[4..11].copy_from_slice(&layout);
-    state[11..].chunks_mut(5).for_each(|words| words.copy_from_slice(&slot()));
-    state
+/// The words before the table (lines that ended, length of the line in progress, whether there is a frame), then the table.
+fn state(words: [u32; reference::sheet::TABLE], table: Table) -> [u32; raw::STATE_WORDS] {
+    let all = [&words[..], table.words()].concat();
+    all.try_into().expect("all words")
 }
 
 /// States of any words, with a part of a record as the line in progress.
@@ -247,29 +226,25 @@ fn state(framed: u32, layout: [u32; 7], mut slot: impl FnMut() -> [u32; 5]) -> [
 fn hand_made_states() {
     let (mut g, mut session) = session(102);
     for _ in 0..40000 {
-        let framed = g.pick(&[0, 1, 2, 1 << 31, u32::MAX]);
-        let mut state = if g.one_in(4) {
-            state(framed, std::array::from_fn(|_| g.pick(&EDGES)), || std::array::from_fn(|_| g.pick(&EDGES)))
-        } else {
-            let placed = [0, 0, 0, 0, 0, 1, 2, u32::MAX];
-            state(framed, g.layout(6, 3, 21, 0).into(), || [g.pick(&placed), g.among(0, 6), g.among(0, 3), g.among(0, 4), g.among(0, 2)])
-        };
-        let line = any_line(&mut g);
+        let layout = g.layout(6, 3, 21, 0);
+        let line = any_line(&mut g, &[0, 0, 1]);
         let held = g.index(line.len() + 1).min(120);
         let mut rest = line[held..].to_vec();
         let mut text: [u8; 120] = std::array::from_fn(|_| g.word() as u8);
         text[..held].copy_from_slice(&line[..held]);
-        state[..3].copy_from_slice(&[g.pick(&[0, 1, u32::MAX - 1, u32::MAX]), g.pick(&[0, 1, u32::MAX]), held as u32]);
+        let mut length = held as u32;
         if g.one_in(8) {
-            state[2] = g.pick(&[0, 1, 119, 120, 121, 122, 5000, 1 << 31, u32::MAX - 1, u32::MAX]);
+            length = g.pick(&[0, 1, 119, 120, 121, 122, 5000, 1 << 31, u32::MAX - 1, u32::MAX]);
             rest.truncate(g.pick(&[0, rest.len()]));
         }
+        let lines = [g.pick(&[0, 1, u32::MAX - 1, u32::MAX]), g.pick(&[0, 1, u32::MAX])];
+        let framed = g.pick(&[0, 1, 2, 1 << 31, u32::MAX]);
         match g.below(3) {
             0 => rest.push(b'\n'),
-            1 => rest.extend([b"\n", &any_line(&mut g)[..]].concat()),
+            1 => rest.extend([b"\n", &any_line(&mut g, &[0, 0, 1])[..]].concat()),
             _ => {}
         }
-        session.sheet = Sheet { state, text };
+        session.sheet = Sheet { state: state([lines[0], lines[1], length, framed], g.any_table(layout, 4)), text };
         session.feed(&rest);
         if g.one_in(2) {
             session.call(Some(b""));
@@ -286,9 +261,11 @@ fn words_that_stay() {
     let (_, mut session) = session(105);
     let lines = [FRAME, "frame\t0\t2\t40\t0\t128\t256\t0\n", "stall\t15\t0\t0\t1\t1\n", "cell\t0\t0\t0\t0\n", "none\n", "part", ""];
     each!(framed in [0, 1, 2, u32::MAX], placed in [0, 1, 2, u32::MAX], line in lines => {
-        let mut state = state(framed, [3, 2, 40, 0, 128, 256, 0], || [placed, 1, 1, 1, 1]);
-        state[86] = 0;
-        session.sheet = Sheet { state, text: [b'y'; 120] };
+        let mut table = with_slot([3, 2, 40, 0, 128, 256, 0].into(), 15, [0, 1, 1, 1, 1]);
+        for slot in 0..15 {
+            table = reference::regions::with_slot(&table, slot, [placed, 1, 1, 1, 1]);
+        }
+        session.sheet = Sheet { state: state([0, 0, 0, framed], table), text: [b'y'; 120] };
         session.call(Some(line.as_bytes()));
         session.call(None);
     });
@@ -301,13 +278,7 @@ fn records() {
     let (mut g, mut session) = session(103);
     let framed = framed();
     for _ in 0..200_000 {
-        let mut line = good_line(&mut g);
-        for _ in 0..g.below(3) {
-            if !line.is_empty() {
-                damage_line(&mut g, &mut line);
-            }
-        }
-        session.line(&framed, &line);
+        session.line(&framed, &any_line(&mut g, &[0, 1, 2]));
     }
     for _ in 0..50_000 {
         let line: Vec<u8> = (0..g.below(140)).map(|_| g.pick(b"framestallcell\t\t\t0123456789\n")).collect();

@@ -87,16 +87,12 @@ pub fn pack(layout: Layout, elements: &[i16], buffer: &mut [u8]) -> Answer<()> {
         let atom = (cube.start + surface * cube.surface + h * cube.line + w * 32) as usize;
         buffer[atom..atom + 32].fill(0);
     });
-    for (&element, at) in elements.iter().zip(cube.all_positions()) {
-        write(cube.precision, element, buffer, at);
-    }
+    write(cube.precision, elements, buffer, cube.all_positions());
     Ok(())
 }
 
 pub fn unpack(layout: Layout, buffer: &[u8], elements: &mut [i16]) -> Answer<()> {
     let cube = admitted(layout, elements.len(), buffer.len())?;
-    for (element, at) in elements.iter_mut().zip(cube.all_positions()) {
-        *element = read(cube.precision, buffer, at);
-    }
+    read(cube.precision, buffer, elements, cube.all_positions());
     Ok(())
 }

@@ -11,24 +11,27 @@ pub fn bytes_of(precision: i128) -> i128 {
     }
 }
 
-/// Writes an element, the low byte first.
-pub fn write(precision: i128, element: i16, buffer: &mut [u8], at: usize) {
-    let pattern = i128::from(element).rem_euclid(65536);
-    buffer[at] = (pattern % 256) as u8;
-    if bytes_of(precision) == 2 {
-        buffer[at + 1] = (pattern / 256) as u8;
+/// Writes elements at these bytes, the low byte first.
+pub fn write(precision: i128, elements: &[i16], buffer: &mut [u8], positions: impl Iterator<Item = usize>) {
+    for (&element, at) in elements.iter().zip(positions) {
+        let pattern = i128::from(element).rem_euclid(65536);
+        buffer[at] = (pattern % 256) as u8;
+        if bytes_of(precision) == 2 {
+            buffer[at + 1] = (pattern / 256) as u8;
+        }
     }
 }
 
-/// Reads an element: one or two bytes as a number in two's complement.
-pub fn read(precision: i128, buffer: &[u8], at: usize) -> i16 {
-    let low = i32::from(buffer[at]);
-    let (pattern, range) = match bytes_of(precision) {
-        1 => (low, 256),
-        _ => (low + 256 * i32::from(buffer[at + 1]), 65536),
-    };
-    let number = if pattern >= range / 2 { pattern - range } else { pattern };
-    number as i16
+/// Reads the elements at these bytes: one or two bytes as a number in two's complement.
+pub fn read(precision: i128, buffer: &[u8], elements: &mut [i16], positions: impl Iterator<Item = usize>) {
+    for (element, at) in elements.iter_mut().zip(positions) {
+        let low = i32::from(buffer[at]);
+        let (pattern, range) = match bytes_of(precision) {
+            1 => (low, 256),
+            _ => (low + 256 * i32::from(buffer[at + 1]), 65536),
+        };
+        *element = if pattern >= range / 2 { pattern - range } else { pattern } as i16;
+    }
 }
 
 /// Refuses another number of elements.

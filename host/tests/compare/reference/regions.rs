@@ -1,7 +1,7 @@
 //! Regions (the paper's stalls) of one cube in a table of sixteen slots (its desk). A table of any words is taken.
 
 use super::cube::{checked, Cube};
-use super::elements::{check_count, check_values, read as read_element, write};
+use super::elements::{check_count, check_values, read as read_elements, write};
 use super::{refuse, require};
 use olsketina::{Answer, ElementBox, Layout, Refusal, Region, Table};
 
@@ -27,15 +27,21 @@ fn overlap(one: Region, other: Region) -> bool {
     left.max(other_left) < (left + columns).min(other_left + other_columns) && top.max(other_top) < (top + rows).min(other_top + other_rows)
 }
 
+/// The words of a slot: placed, then the region's.
+pub const SLOT: usize = 5;
+
 /// The layout of a table, and its regions slot by slot.
-fn parts(table: &Table) -> (Layout, [Option<Region>; 16]) {
-    let words = table.words();
-    let layout: [u32; 7] = std::array::from_fn(|at| words[at]);
-    let regions = std::array::from_fn(|slot| {
-        let word = |at: usize| words[7 + 5 * slot + at];
-        (word(0) != 0).then(|| [word(1), word(2), word(3), word(4)].into())
-    });
-    (layout.into(), regions)
+fn parts(table: &Table) -> (Layout, Vec<Option<Region>>) {
+    let (layout, slots) = table.words().split_first_chunk::<7>().expect("a layout's words");
+    let region = |slot: &[u32]| (slot[0] != 0).then(|| [slot[1], slot[2], slot[3], slot[4]].into());
+    ((*layout).into(), slots.chunks(SLOT).map(region).collect())
+}
+
+/// The table with other words in a slot.
+pub fn with_slot(table: &Table, slot: usize, words: [u32; SLOT]) -> Table {
+    let mut all = *table.words();
+    all[7 + SLOT * slot..][..SLOT].copy_from_slice(&words);
+    Table::from_words(all)
 }
 
 /// A box of one cube: its first element and its sizes, by channel, row and column.
@@ -67,7 +73,7 @@ pub fn admitted(table: &Table, slot: u32, part: ElementBox, elements: usize, byt
 }
 
 pub fn empty(layout: Layout) -> Table {
-    let mut words = [0; 87];
+    let mut words = [0; Table::WORDS];
     words[..7].copy_from_slice(&<[u32; 7]>::from(layout));
     Table::from_words(words)
 }
@@ -75,31 +81,23 @@ pub fn empty(layout: Layout) -> Table {
 pub fn place(table: &mut Table, slot: u32, region: Region) -> Answer<()> {
     let (layout, regions) = parts(table);
     let cube = checked(layout)?;
-    require(slot < 16 && regions[slot as usize].is_none(), Refusal::SLOT)?;
+    require(regions.get(slot as usize).is_some_and(Option::is_none), Refusal::SLOT)?;
     require(inside(region, &cube), Refusal::BOUNDS)?;
     require(!regions.into_iter().flatten().any(|other| overlap(other, region)), Refusal::OVERLAP)?;
-    let mut words = *table.words();
-    let at = 7 + 5 * slot as usize;
-    words[at] = 1;
-    words[at + 1..at + 5].copy_from_slice(&<[u32; 4]>::from(region));
-    *table = Table::from_words(words);
+    *table = with_slot(table, slot as usize, [1, region.column, region.row, region.columns, region.rows]);
     Ok(())
 }
 
 pub fn edit(table: &Table, slot: u32, part: ElementBox, elements: &[i16], buffer: &mut [u8]) -> Answer<()> {
     let InCube { cube, first, sizes } = admitted(table, slot, part, elements.len(), buffer.len())?;
     check_values(cube.precision as u32, elements)?;
-    for (&element, at) in elements.iter().zip(cube.positions(first, sizes)) {
-        write(cube.precision, element, buffer, at);
-    }
+    write(cube.precision, elements, buffer, cube.positions(first, sizes));
     Ok(())
 }
 
 pub fn read(table: &Table, slot: u32, part: ElementBox, buffer: &[u8], elements: &mut [i16]) -> Answer<()> {
     let InCube { cube, first, sizes } = admitted(table, slot, part, elements.len(), buffer.len())?;
-    for (element, at) in elements.iter_mut().zip(cube.positions(first, sizes)) {
-        *element = read_element(cube.precision, buffer, at);
-    }
+    read_elements(cube.precision, buffer, elements, cube.positions(first, sizes));
     Ok(())
 }
 

@@ -1,50 +1,22 @@
 //! Sheets: records, and the state between the parts of the input.
 
 use super::{cube, refuse, regions};
-use olsketina::{Answer, Refusal, Row, Sheet, Table};
+use olsketina::{Answer, Layout, Refusal, Region, Row, Sheet, Table};
 
 const LONGEST_LINE: u32 = 120;
 
-/// A line of a sheet.
-enum Record {
-    Frame([u32; 7]),
-    /// Slot, first column, first row, columns, rows.
-    Stall([u32; 5]),
-    /// Slot, channel, row, column.
-    Cell([u32; 4]),
-}
-
 /// Digits up to 4294967295, no leading zero save 0 itself.
 fn number(field: &[u8]) -> Option<u32> {
-    let leading_zero = field.len() > 1 && field[0] == b'0';
-    if field.is_empty() || field.len() > 10 || leading_zero {
-        return None;
-    }
-    let mut value: u64 = 0;
-    for &byte in field {
-        if !byte.is_ascii_digit() {
-            return None;
-        }
-        value = value * 10 + u64::from(byte - b'0');
-    }
-    u32::try_from(value).ok()
+    let readable = field.iter().all(u8::is_ascii_digit) && (field == b"0" || !field.starts_with(b"0"));
+    std::str::from_utf8(field).ok().filter(|_| readable)?.parse().ok()
 }
 
-/// Exactly N numbers.
-fn numbers<const N: usize>(fields: &[&[u8]]) -> Option<[u32; N]> {
-    let values: Option<Vec<u32>> = fields.iter().map(|field| number(field)).collect();
-    values?.try_into().ok()
-}
-
-/// The record that a line is.
-fn record(line: &[u8]) -> Option<Record> {
-    let fields: Vec<&[u8]> = line.split(|&byte| byte == b'\t').collect();
-    match fields[0] {
-        b"frame" => numbers(&fields[1..]).map(Record::Frame),
-        b"stall" => numbers(&fields[1..]).map(Record::Stall),
-        b"cell" => numbers(&fields[1..]).map(Record::Cell),
-        _ => None,
-    }
+/// The name and the numbers of a line.
+fn fields(line: &[u8]) -> Option<(&[u8], Vec<u32>)> {
+    let mut fields = line.split(|&byte| byte == b'\t');
+    let name = fields.next()?;
+    let numbers: Option<Vec<u32>> = fields.map(number).collect();
+    Some((name, numbers?))
 }
 
 /// The state's words: lines ended (low, high), length of the line in progress, whether a frame was accepted, the table.
@@ -52,28 +24,30 @@ const LINES_LOW: usize = 0;
 const LINES_HIGH: usize = 1;
 const LENGTH: usize = 2;
 const FRAMED: usize = 3;
-const TABLE: usize = 4;
+pub const TABLE: usize = 4;
 
-/// The value of a record; an accepted frame or stall changes the state.
-fn apply(state: &mut [u32; 91], record: Option<Record>) -> Answer<u64> {
+/// The value of a line; an accepted frame or stall changes the state.
+fn apply(state: &mut [u32], line: &[u8]) -> Answer<u64> {
     let mut table = Table::from_words(std::array::from_fn(|at| state[TABLE + at]));
     let framed = state[FRAMED] != 0;
-    let value = match record {
-        None => return refuse(Refusal::SCRIPT_LINE),
-        Some(Record::Frame(words)) => {
-            let extent = cube::extent(words.into())?;
-            table = regions::empty(words.into());
+    let Some((name, numbers)) = fields(line) else { return refuse(Refusal::SCRIPT_LINE) };
+    let value = match (name, &numbers[..]) {
+        (b"frame", &[width, height, channels, precision, line, surface, start]) => {
+            let layout = Layout { width, height, channels, precision, line, surface, start };
+            let extent = cube::extent(layout)?;
+            table = regions::empty(layout);
             if !framed {
                 state[FRAMED] = 1;
             }
             extent
         }
-        _ if !framed => return refuse(Refusal::SIZE),
-        Some(Record::Stall([slot, column, row, columns, rows])) => {
-            regions::place(&mut table, slot, [column, row, columns, rows].into())?;
+        (b"stall", [_, _, _, _, _]) | (b"cell", [_, _, _, _]) if !framed => return refuse(Refusal::SIZE),
+        (b"stall", &[slot, column, row, columns, rows]) => {
+            regions::place(&mut table, slot, Region { column, row, columns, rows })?;
             [columns, rows, table.words()[2]].map(u64::from).iter().product()
         }
-        Some(Record::Cell([slot, channel, row, column])) => regions::position(&table, slot, channel, row, column)?,
+        (b"cell", &[slot, channel, row, column]) => regions::position(&table, slot, channel, row, column)?,
+        _ => return refuse(Refusal::SCRIPT_LINE),
     };
     state[TABLE..].copy_from_slice(table.words());
     Ok(value)
@@ -83,8 +57,7 @@ fn apply(state: &mut [u32; 91], record: Option<Record>) -> Answer<u64> {
 fn end_line(sheet: &mut Sheet) -> Row {
     let Sheet { state, text } = sheet;
     let length = state[LENGTH];
-    let readable = length <= LONGEST_LINE;
-    let answer = apply(state, if readable { record(&text[..length as usize]) } else { None });
+    let answer = if length <= LONGEST_LINE { apply(state, &text[..length as usize]) } else { refuse(Refusal::SCRIPT_LINE) };
     let lines = u64::from(state[LINES_LOW]) + (u64::from(state[LINES_HIGH]) << 32);
     let line = lines.wrapping_add(1);
     state[LINES_LOW] = (line % (1 << 32)) as u32;
@@ -94,7 +67,7 @@ fn end_line(sheet: &mut Sheet) -> Row {
 }
 
 pub fn begin() -> Sheet {
-    Sheet { state: [0; 91], text: [0; 120] }
+    Sheet { state: [0; TABLE + Table::WORDS], text: [0; LONGEST_LINE as usize] }
 }
 
 pub fn feed(sheet: &mut Sheet, part: &[u8]) -> (usize, Option<Row>) {

@@ -55,13 +55,13 @@ impl Numbers {
         (element * bytes_of(self.precision)) as usize
     }
 
-    /// Hands every weight's raw index and byte position to `take`.
-    fn each(&self, mut take: impl FnMut(usize, usize)) {
-        let mut index = 0;
+    /// The bytes at which the weights begin, in raw order.
+    fn positions(&self) -> impl Iterator<Item = usize> {
+        let mut positions = Vec::new();
         each!(k in 0..self.kernels, c in 0..self.channels, r in 0..self.rows, s in 0..self.columns => {
-            take(index, self.position(k, c, r, s));
-            index += 1;
+            positions.push(self.position(k, c, r, s));
         });
+        positions.into_iter()
     }
 }
 
@@ -85,12 +85,12 @@ pub fn pack(weights: Weights, elements: &[i16], buffer: &mut [u8]) -> Answer<()>
     let numbers = admitted(weights, elements.len(), buffer.len())?;
     check_values(weights.precision, elements)?;
     buffer[..numbers.surface() as usize].fill(0);
-    numbers.each(|index, at| write(numbers.precision, elements[index], buffer, at));
+    write(numbers.precision, elements, buffer, numbers.positions());
     Ok(())
 }
 
 pub fn unpack(weights: Weights, buffer: &[u8], elements: &mut [i16]) -> Answer<()> {
     let numbers = admitted(weights, elements.len(), buffer.len())?;
-    numbers.each(|index, at| elements[index] = read(numbers.precision, buffer, at));
+    read(numbers.precision, buffer, elements, numbers.positions());
     Ok(())
 }
