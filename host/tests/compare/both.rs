@@ -49,7 +49,7 @@ impl Both {
         &mut self, call: &'static str, library: Answer<T>, reference: Answer<T>, case: Arguments,
     ) -> Option<T> {
         assert!(library == reference, "{call}: the library gives {library:?}, the reference {reference:?}; case: {case}");
-        self.note(call, number(&library));
+        self.note(call, number(&library), 1);
         self.last = library.as_ref().map(|_| ()).map_err(|&refusal| refusal);
         library.ok()
     }
@@ -70,8 +70,8 @@ impl Both {
         theirs
     }
 
-    pub fn note(&mut self, call: &'static str, number: u32) {
-        *self.counts.entry(call).or_default().entry(number).or_insert(0) += 1;
+    pub fn note(&mut self, call: &'static str, number: u32, times: u32) {
+        *self.counts.entry(call).or_default().entry(number).or_insert(0) += u64::from(times);
     }
 
     /// Prints the counts; fails unless these calls gave these answers, and no other ones.

@@ -1,7 +1,7 @@
 //! The calls on settings and regions, each beside the reference's.
 
 use crate::both::{compare, same, Both};
-use crate::draw::{buffer_length, product, with_slot, Generator};
+use crate::draw::{buffer_length, product, with_slot, Generator, EDGES};
 use crate::reference::{cube, pixels, regions, weights};
 use olsketina::{ElementBox, Image, Layout, Region, Table, Weights};
 
@@ -39,6 +39,11 @@ impl Setting {
         (precision, product(&self.sizes()), bytes)
     }
 }
+
+/// All that the calls on weights answer, and those on a box of a whole cube.
+pub const WEIGHTS: &str =
+    "weights_count: 0 1 2; weights_extent: 0 1 2; weights_pack: 0 1 2 5 6 7; weights_position: 0 1 2 9; weights_unpack: 0 1 2 5 6";
+pub const BOXES: &str = "regions_edit: 0 1 2 3 4 5 6 7 9; regions_read: 0 1 2 3 4 5 6 9";
 
 /// A box of a layout's cube, of any words: the region in slot 15 is the whole cube.
 pub fn in_cube(layout: Layout, part: ElementBox) -> Setting {
@@ -94,10 +99,9 @@ impl Both {
         }
     }
 
-    pub fn empty(&mut self, layout: Layout) -> Table {
+    pub fn empty(&self, layout: Layout) -> Table {
         let table = Table::empty(layout);
         same("regions_empty", table.words(), regions::empty(layout).words(), format_args!("{layout:?}"));
-        self.note("regions_empty", 0);
         table
     }
 
@@ -147,13 +151,12 @@ impl Both {
         let sizes = setting.sizes();
         let inside: Vec<u32> = sizes.iter().map(|&size| g.among(0, size.max(1) - 1)).collect();
         let last: Vec<u32> = sizes.iter().map(|size| size.wrapping_sub(1)).collect();
-        let mut past = [last.clone(), last.clone()];
-        for at in &mut past {
-            let index = g.index(at.len());
-            at[index] = g.pick(&[sizes[index], 32, 8192, u32::MAX]);
-        }
-        for at in [&inside, &last, &past[0], &past[1]] {
-            self.position(setting, at);
+        self.position(setting, &inside);
+        self.position(setting, &last);
+        for _ in 0..2 {
+            let (mut past, at, edge) = (last.clone(), g.index(sizes.len()), g.pick(&EDGES));
+            past[at] = g.pick(&[sizes[at], edge, 8192, u32::MAX]);
+            self.position(setting, &past);
         }
     }
 }

@@ -125,8 +125,8 @@ impl Generator {
         }
     }
 
-    /// A table of any words, those of a valid layout or of a damaged one: placed words that are not 0 or 1, regions that are inside, outside the cube,
-    /// empty, past 32 bits.
+    /// A table of any words: those of the layout, damaged once in `odds` times; placed words that are not 0 or 1; regions inside the cube and outside,
+    /// empty ones, sums past 32 bits.
     pub fn any_table(&mut self, layout: Layout, odds: u64) -> Table {
         let mut table = regions::empty(self.damaged(odds, layout));
         for slot in 0..16 {

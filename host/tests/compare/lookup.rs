@@ -1,6 +1,6 @@
 //! The two-table lookup, in both modes of X, and the camera curve.
 
-use crate::both::{compare, same, start as begin, Both};
+use crate::both::{compare, same, start, Both};
 use crate::draw::{Generator, EDGES};
 use crate::reference::{camera as plain_camera, each, lookup as plain};
 use olsketina::{camera, Choice, Counters, Lookup, Mode, Slope, TableSettings};
@@ -16,18 +16,8 @@ struct Given {
     counters: Counters,
 }
 
-/// The cases compared, and how many samples of each kind the accepted runs had.
-struct Runs {
-    both: Both,
-    kinds: [u64; 5],
-}
-
-fn runs(seed: u64) -> (Generator, Runs) {
-    let (g, both) = begin(seed);
-    (g, Runs { both, kinds: [0; 5] })
-}
-
-impl Runs {
+impl Both {
+    /// Compares a run, and counts the samples of each kind where it was accepted.
     fn run(&mut self, lookup: Lookup, given: &Given) {
         let call = if lookup.mode == Mode::Linear { "lut_run_linear" } else { "lut_run_exponential" };
         let Given { xs, ys, samples, outputs, counters } = given;
@@ -35,25 +25,23 @@ impl Runs {
         let case = format_args!("{lookup:?} X {xs:?} Y {ys:?} samples {samples:?} outputs {} {counters:?}", outputs.len());
         let library = |outputs: &mut [i32]| lookup.run(xs, ys, samples, outputs, &mut ours);
         let reference = |outputs: &mut [i32]| plain::run(&lookup, xs, ys, samples, outputs, &mut theirs);
-        self.both.lend(call, outputs, case, library, reference);
+        self.lend(call, outputs, case, library, reference);
         same("counters", &ours, &theirs, case);
-        for (kind, total) in self.kinds.iter_mut().enumerate() {
-            *total += u64::from(ours[kind] - counters[kind]);
+        for (kind, (after, before)) in (0..).zip(ours.into_iter().zip(counters)).filter(|(_, (after, before))| after > before) {
+            self.note("samples of kind", kind, after - before);
         }
     }
 
     /// The same with tables and counters drawn for it, and samples too.
-    fn drawn(&mut self, g: &mut Generator, lookup: Lookup) {
+    fn run_drawn(&mut self, g: &mut Generator, lookup: Lookup) {
         let samples = samples(g, &lookup);
         self.run(lookup, &given(g, samples));
     }
+}
 
-    /// Fails unless both calls gave these answers, and every kind of sample was seen.
-    fn expect(self, answers: &str) {
-        println!("samples by kind: {:?}", self.kinds);
-        assert!(self.kinds.iter().all(|&samples| samples > 0));
-        self.both.expect(&format!("lut_run_exponential: {answers}; lut_run_linear: {answers}"));
-    }
+/// Both calls gave these answers, and every kind of sample was seen.
+fn all(answers: &str) -> String {
+    format!("lut_run_exponential: {answers}; lut_run_linear: {answers}; samples of kind: 0 1 2 3 4")
 }
 
 /// start + last · 2^select.
@@ -71,16 +59,10 @@ fn held(number: i64) -> i32 {
 }
 
 /// A start from which a table of this length ends within 32 bits.
-fn start(g: &mut Generator, last: i64, select: i32) -> i32 {
-    let greatest = greatest(last, select);
-    let start = match g.below(6) {
-        0 => i32::MIN.into(),
-        1 => greatest,
-        2 => g.between(-300, 300),
-        3 => -end(0, last, select) / 2,
-        _ => g.between(i32::MIN.into(), greatest),
-    };
-    held(start.min(greatest))
+fn any_start(g: &mut Generator, last: i64, select: i32) -> i32 {
+    let (low, greatest) = (i32::MIN.into(), greatest(last, select));
+    let [near, any] = [g.between(-300, 300), g.between(low, greatest)];
+    held(g.pick(&[low, greatest, near, -end(0, last, select) / 2, any, any]).min(greatest))
 }
 
 fn slope(g: &mut Generator) -> (i16, i32) {
@@ -102,7 +84,7 @@ fn lookup(mode: Mode, x: TableSettings, y: TableSettings, bits: u32) -> Lookup {
 /// A valid linear table of last + 1 entries, its select from `low` to `high`.
 fn linear(g: &mut Generator, last: i64, low: i64, high: i64) -> TableSettings {
     let select = g.between(low, high) as i32;
-    let start = start(g, last, select);
+    let start = any_start(g, last, select);
     table(select, start, end(start, last, select) as i32, [slope(g), slope(g)])
 }
 
@@ -111,11 +93,9 @@ fn settings(g: &mut Generator, mode: Mode) -> Lookup {
     let mut x = linear(g, 64, -6, 25);
     if mode == Mode::Exponential {
         (x.select, x.end) = (g.between(-32, 31) as i32, i32::MAX);
-        x.start = match g.below(4) {
-            0 => g.pick(&[i32::MIN, -1, 0, 1, i32::MAX - 1, i32::MAX]),
-            1 => g.between(-300, 300) as i32,
-            _ => g.word() as i32,
-        };
+        let edge = g.pick(&[i32::MIN, -1, 0, 1, i32::MAX - 1, i32::MAX]);
+        let [near, any] = [g.between(-300, 300) as i32, g.word() as i32];
+        x.start = g.pick(&[edge, near, any, any]);
     }
     let mut y = linear(g, 256, -8, 23);
     if g.one_in(2) {
@@ -143,17 +123,15 @@ fn entries(g: &mut Generator, count: usize) -> Vec<i16> {
 
 /// Samples at and beside the ends of both tables, at powers of two from them, at the 32-bit limits, and anywhere.
 fn samples(g: &mut Generator, lookup: &Lookup) -> Vec<i32> {
+    let Lookup { x, y, .. } = lookup;
     let mut samples = vec![i32::MIN, i32::MIN + 1, -1, 0, 1, i32::MAX - 1, i32::MAX];
-    let ends = [lookup.x.start, lookup.x.end, lookup.y.start, lookup.y.end].map(i64::from);
-    for base in ends {
+    for base in [x.start, x.end, y.start, y.end].map(i64::from) {
         samples.extend((-2..=2).map(|beside| held(base + beside)));
-        for k in 1..=31 {
-            let at = base + (1 << k);
-            samples.extend([at - 1, at, at + 1, base - (1 << k)].map(held));
-        }
+        let powers = (1..=31).map(|k| 1 << k);
+        samples.extend(powers.flat_map(|power| [base + power - 1, base + power, base + power + 1, base - power].map(held)));
     }
-    for [low, high] in [[ends[0], ends[1]], [ends[2], ends[3]]] {
-        samples.extend((0..30).map(|_| g.between(low.min(high), low.max(high)) as i32));
+    for [one, other] in [[x.start, x.end], [y.start, y.end]].map(|ends| ends.map(i64::from)) {
+        samples.extend((0..30).map(|_| g.between(one.min(other), one.max(other)) as i32));
     }
     samples.extend((0..30).map(|_| g.word() as i32));
     samples
@@ -167,26 +145,26 @@ fn given(g: &mut Generator, samples: Vec<i32>) -> Given {
 
 #[test]
 fn accepted_runs() {
-    let (mut g, mut runs) = runs(80);
-    each!(_ in 0..12000, mode in MODES => {
+    let (mut g, mut both) = start(80);
+    each!(_ in 0..12500, mode in MODES => {
         let lookup = settings(&mut g, mode);
-        runs.drawn(&mut g, lookup);
+        both.run_drawn(&mut g, lookup);
     });
-    runs.expect("0");
+    both.expect(&all("0"));
 }
 
 /// Every select and offset from below its range to above it, with the right end and ends beside it; then from starts at and beside the greatest:
 /// a table whose end would be past 32 bits has no end that is taken.
 #[test]
 fn every_select_and_offset() {
-    let (mut g, mut runs) = runs(81);
+    let (mut g, mut both) = start(81);
     let x = (-34..=34).map(|select| (64, select, (-6..=25).contains(&select)));
     let y = (-10..=25).map(|select| (256, select, (-8..=23).contains(&select)));
     each!(mode in MODES, (last, select, valid) in x.clone().chain(y.clone()) => {
         let exponential = last == 64 && mode == Mode::Exponential;
         let mut ends = Vec::new();
         for beside in [0, 0, 0, 1, -1, i32::MIN] {
-            let start = if valid { start(&mut g, last, select) } else { g.word() as i32 };
+            let start = if valid { any_start(&mut g, last, select) } else { g.word() as i32 };
             let end = if exponential { i32::MAX } else { held(end(start, last, select)) };
             ends.push((start, end.wrapping_add(beside)));
         }
@@ -198,28 +176,28 @@ fn every_select_and_offset() {
             let mut lookup = settings(&mut g, mode);
             let table = if last == 64 { &mut lookup.x } else { &mut lookup.y };
             (table.select, table.start, table.end) = (select, start, end);
-            runs.drawn(&mut g, lookup);
+            both.run_drawn(&mut g, lookup);
         }
     });
-    runs.expect("0 12 13 14 15");
+    both.expect(&all("0 12 13 14 15"));
 }
 
 #[test]
 fn every_shift() {
-    let (mut g, mut runs) = runs(83);
+    let (mut g, mut both) = start(83);
     let shifts = (-17..=16).chain([i32::MIN, -32, -31, 31, 32, i32::MAX]);
     each!(mode in MODES, at in 0..4, shift in shifts.clone(), scale in [i16::MIN, -3, -1, 0, 1, 3, i16::MAX] => {
         let mut lookup = settings(&mut g, mode);
         *slopes(&mut lookup)[at] = Slope { scale, shift };
-        runs.drawn(&mut g, lookup);
+        both.run_drawn(&mut g, lookup);
     });
-    runs.expect("0 16");
+    both.expect(&all("0 16"));
 }
 
 /// The longest slopes: a table at one end of the samples' range, and samples at the other.
 #[test]
 fn longest_slopes() {
-    let (mut g, mut runs) = runs(84);
+    let (mut g, mut both) = start(84);
     let slopes =
         [i16::MIN, i16::MIN + 1, -1, 1, i16::MAX].into_iter().flat_map(|scale| [-16, -15, -1, 0, 1, 15].map(|shift| (scale, shift)));
     each!(slope in slopes, entry in [i16::MIN, 0, i16::MAX], start in [i32::MIN, i32::MAX - 1], bits in [0, 7] => {
@@ -227,18 +205,18 @@ fn longest_slopes() {
         let linear = lookup(Mode::Linear, x, y, bits);
         let samples = samples(&mut g, &linear);
         let given = Given { xs: vec![entry; 65], ys: vec![entry; 257], ..given(&mut g, samples) };
-        runs.run(linear, &given);
-        runs.run(lookup(Mode::Exponential, table(31, i32::MAX, i32::MAX, [slope; 2]), y, bits), &given);
+        both.run(linear, &given);
+        both.run(lookup(Mode::Exponential, table(31, i32::MAX, i32::MAX, [slope; 2]), y, bits), &given);
     });
-    runs.both.expect("lut_run_exponential: 0; lut_run_linear: 0");
+    both.expect("lut_run_exponential: 0; lut_run_linear: 0; samples of kind: 1 2 3 4");
 }
 
 /// Settings, table lengths, output lengths and counters right and wrong in every mixture.
 #[test]
 fn refusals_and_their_order() {
-    let (mut g, mut runs) = runs(85);
+    let (mut g, mut both) = start(85);
     let [low, high] = [i32::MIN, i32::MAX];
-    for round in 0..60000 {
+    for round in 0..66000 {
         let mut lookup = settings(&mut g, MODES[round % 2]);
         let mut samples = samples(&mut g, &lookup);
         samples.truncate(g.index(12));
@@ -258,16 +236,16 @@ fn refusals_and_their_order() {
                 _ => given.counters[g.index(5)] = g.pick(&[u32::MAX, u32::MAX - 5, 1 << 31]),
             }
         }
-        runs.run(lookup, &given);
+        both.run(lookup, &given);
     }
-    runs.expect("0 11 12 13 14 15 16 17 18");
+    both.expect(&all("0 11 12 13 14 15 16 17 18"));
 }
 
 /// The five counters and the new samples up to 4294967295, and past it; also with no samples.
 #[test]
 fn counters_at_the_limit() {
-    let (mut g, mut runs) = runs(86);
-    for round in 0..6000 {
+    let (mut g, mut both) = start(86);
+    for round in 0..6400 {
         let lookup = settings(&mut g, MODES[round % 2]);
         let mut samples = samples(&mut g, &lookup);
         samples.rotate_left(g.index(300));
@@ -279,49 +257,49 @@ fn counters_at_the_limit() {
             left -= i64::from(*counter);
         }
         *given.counters.iter_mut().min().expect("five") += left as u32;
-        runs.run(lookup, &given);
+        both.run(lookup, &given);
     }
     let lookup = settings(&mut g, Mode::Linear);
     let mut given = given(&mut g, Vec::new());
     let pairs = EDGES.into_iter().flat_map(|one| EDGES.map(|other| [one, 0, other, 0, 0]));
     for counters in pairs.chain([[u32::MAX; 5]]) {
         given.counters = counters;
-        runs.run(lookup, &given);
+        both.run(lookup, &given);
     }
-    runs.expect("0 17");
+    both.expect(&all("0 17"));
 }
 
 /// Each priority bit for each kind of sample.
 #[test]
 fn priorities() {
-    let (mut g, mut runs) = runs(87);
+    let (mut g, mut both) = start(87);
     // X from 0 to 64, Y from −500 to −244 or from 32 to 288: every pair of sides but X above with Y below, then that too.
     each!(bits in 0..8, (mode, x_end) in [(Mode::Linear, 64), (Mode::Exponential, i32::MAX)], y_start in [-500, 32, 500] => {
         let x = table(0, 0, x_end, [(3, 0), (5, 1)]);
         let y = table(0, y_start, y_start + 256, [(7, -1), (11, 2)]);
-        runs.run(lookup(mode, x, y, bits), &given(&mut g, (-600..900).step_by(7).collect()));
+        both.run(lookup(mode, x, y, bits), &given(&mut g, (-600..900).step_by(7).collect()));
     });
-    runs.expect("0");
+    both.expect(&all("0"));
 }
 
 /// Every sample around a short exponential table, for every offset.
 #[test]
 fn exponential_samples_one_by_one() {
-    let (mut g, mut runs) = runs(88);
+    let (mut g, mut both) = start(88);
     each!(offset in -32..=31, start in [0, -100, i32::MIN, i32::MAX - 700] => {
         let x = table(offset, start, i32::MAX, [(-3, 1), (5, 0)]);
         let y = table(-8, -5000, -4999, [(7, 0), (11, 0)]);
         let samples = (-10..690).map(|d| start.saturating_add(d)).collect();
-        runs.run(lookup(Mode::Exponential, x, y, 0), &given(&mut g, samples));
+        both.run(lookup(Mode::Exponential, x, y, 0), &given(&mut g, samples));
     });
-    runs.both.expect("lut_run_exponential: 0");
+    both.expect("lut_run_exponential: 0; samples of kind: 0 2 4");
 }
 
 #[test]
 fn every_entry_of_the_curve() {
     let [x, y] = [camera::x_table().to_vec(), camera::y_table().to_vec()];
-    same("X", &x, &(0..65).map(plain_camera::x_entry).collect::<Vec<i16>>(), format_args!("table"));
-    same("Y", &y, &(0..257).map(plain_camera::y_entry).collect::<Vec<i16>>(), format_args!("table"));
+    assert!(x.into_iter().eq((0..65).map(plain_camera::x_entry)));
+    assert!(y.iter().copied().eq((0..257).map(plain_camera::y_entry)));
     for i in (0..400).chain(EDGES) {
         assert_eq!(camera::y_entry(i), plain_camera::y_entry(i), "Y {i}");
         assert_eq!(camera::x_entry(i), plain_camera::x_entry(i), "X {i}");
@@ -336,12 +314,12 @@ fn every_entry_of_the_curve() {
 /// Every select from below the range to above it, each bit named X, named Y or not named; then the settings at work.
 #[test]
 fn ready_made_settings() {
-    let (mut g, mut runs) = runs(90);
+    let (mut g, mut both) = start(90);
     let words = [0, 1, 2, 1 << 31, u32::MAX].map(Choice);
     let selects = (-3..=26).chain([i32::MIN, i32::MIN + 2, -22, 32, 34, i32::MAX]);
     each!(select in selects, priority in words, overflow in words, underflow in words => {
         let choices = [priority, overflow, underflow];
-        let made = compare!(runs.both, "camera_ready_made", Lookup::ready_made, plain_camera::ready_made, select, choices);
+        let made = compare!(both, "camera_ready_made", Lookup::ready_made, plain_camera::ready_made, select, choices);
         let Some(lookup) = made else { continue };
         let mut samples = vec![i32::MIN, -1, 0, 1, i32::MAX];
         for end in [lookup.x.end, lookup.y.end] {
@@ -349,7 +327,7 @@ fn ready_made_settings() {
         }
         samples.extend((0..30).map(|_| g.between(0, lookup.y.end.into()) as i32));
         let [xs, ys] = [camera::x_table().to_vec(), camera::y_table().to_vec()];
-        runs.run(lookup, &Given { xs, ys, outputs: vec![7; samples.len()], samples, counters: [1; 5] });
+        both.run(lookup, &Given { xs, ys, outputs: vec![7; samples.len()], samples, counters: [1; 5] });
     });
-    runs.both.expect("camera_ready_made: 0 14; lut_run_linear: 0");
+    both.expect("camera_ready_made: 0 14; lut_run_linear: 0; samples of kind: 1 2 3 4");
 }

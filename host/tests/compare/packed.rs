@@ -1,10 +1,10 @@
 //! Packing and unpacking of cubes and weights; edits and reads of boxes.
 
 use crate::both::{start, Both};
-use crate::calls::{in_cube, Cube, Kernels, Part};
+use crate::calls::{in_cube, Cube, Kernels, Part, BOXES, WEIGHTS};
 use crate::draw::{dense, whole, with_slot, Generator, EDGES, OUTSIDE, PRECISIONS};
 use crate::reference::each;
-use olsketina::{ElementBox, Weights};
+use olsketina::Weights;
 
 /// Sizes on both sides of larger multiples.
 const WIDE: [u32; 12] = [131, 159, 160, 161, 191, 192, 193, 255, 256, 257, 511, 513];
@@ -52,7 +52,7 @@ fn boxes_of_every_width_and_channel_count() {
             both.box_trip(&mut g, precision, all, [first, 0, 5, wide, 2, other]);
         });
     });
-    both.expect("regions_edit: 0; regions_empty: 0; regions_place: 0; regions_read: 0");
+    both.expect("regions_edit: 0; regions_place: 0; regions_read: 0");
 }
 
 /// Every first and count of channels, and every first and count of columns.
@@ -64,7 +64,7 @@ fn boxes_from_every_channel_and_column() {
         both.box_trip(&mut g, precision, true, [first, part.row, part.column, count, 1, part.columns]);
         both.box_trip(&mut g, precision, true, [part.channel, 0, first, part.channels, 1, count]);
     });
-    both.expect("regions_edit: 0; regions_empty: 0; regions_place: 0; regions_read: 0");
+    both.expect("regions_edit: 0; regions_place: 0; regions_read: 0");
 }
 
 /// Every small kernel, kernels and channels around groups and blocks, and some large ones.
@@ -92,36 +92,21 @@ fn weights_of_many_sizes() {
 #[test]
 fn larger_cubes() {
     let (mut g, mut both) = start(13);
-    let sizes = [
-        [8192, 2, 33, 0],
-        [8192, 1, 3, 1],
-        [2, 8192, 17, 1],
-        [1, 8192, 33, 0],
-        [3, 2, 8192, 0],
-        [1, 1, 8192, 2],
-        [224, 224, 3, 0],
-        [130, 70, 65, 0],
-        [129, 33, 130, 1],
-        [300, 50, 40, 2],
-    ];
-    for [width, height, channels, precision] in sizes {
+    let int8 = [[8192, 2, 33], [1, 8192, 33], [3, 2, 8192], [224, 224, 3], [130, 70, 65]];
+    let sizes = [&int8[..], &[[8192, 1, 3], [2, 8192, 17], [129, 33, 130]], &[[1, 1, 8192], [300, 50, 40]]];
+    each!(precision in 0..=2, &[width, height, channels] in sizes[precision as usize] => {
         let layout = g.layout(width, height, channels, precision);
-        let both_ways = [Cube(layout), in_cube(layout, whole(layout))];
-        for setting in both_ways {
-            both.trip(&mut g, setting);
-        }
+        let settings = [Cube(layout), in_cube(layout, whole(layout))];
+        settings.into_iter().for_each(|setting| both.trip(&mut g, setting));
         for _ in 0..3 {
             let part = g.inner_box(channels, height, width);
             both.trip(&mut g, in_cube(layout, part));
             let (_, count, length) = Cube(layout).needs();
-            let mut elements = g.elements(precision, count);
+            let (mut elements, bytes) = (g.elements(precision, count), g.bytes(length));
             g.spoil(1, &mut elements);
-            let buffer = g.bytes(length);
-            for setting in both_ways {
-                both.write(setting, &elements, &buffer);
-            }
+            settings.into_iter().for_each(|setting| drop(both.write(setting, &elements, &bytes)));
         }
-    }
+    });
     both.expect("cube_pack: 0 7; cube_unpack: 0; regions_edit: 0 7; regions_read: 0");
 }
 
@@ -129,7 +114,7 @@ fn larger_cubes() {
 #[test]
 fn refusals_and_their_order() {
     let (mut g, mut both) = start(14);
-    for _ in 0..60000 {
+    for _ in 0..62000 {
         let layout = g.small_layout();
         let part = g.inner_box(layout.channels, layout.height, layout.width);
         let channels = if g.one_in(20) { g.among(60, 70) } else { g.among(1, 8) };
@@ -146,10 +131,7 @@ fn refusals_and_their_order() {
         both.lengths(&mut g, Kernels(weights), Kernels(other_weights), usize::MAX);
         both.checks(&mut g, Kernels(other_weights));
     }
-    both.expect(
-        "cube_pack: 0 1 2 3 4 5 6 7; cube_unpack: 0 1 2 3 4 5 6; regions_edit: 0 1 2 3 4 5 6 7 9; regions_read: 0 1 2 3 4 5 6 9; \
-         weights_count: 0 1 2; weights_extent: 0 1 2; weights_pack: 0 1 2 5 6 7; weights_position: 0 1 2 9; weights_unpack: 0 1 2 5 6",
-    );
+    both.expect(&format!("cube_pack: 0 1 2 3 4 5 6 7; cube_unpack: 0 1 2 3 4 5 6; {BOXES}; {WEIGHTS}"));
 }
 
 /// Each number of elements and bytes beside the exact one; of some weights every number of bytes, past the last fill of 128.
@@ -236,29 +218,24 @@ fn every_element() {
 #[test]
 fn boxes_beside_the_cube() {
     let (mut g, mut both) = start(17);
-    let along = |axis: usize, first, count| {
-        let mut part = [0, 0, 0, 1, 1, 1];
-        [part[axis], part[axis + 3]] = [first, count];
-        ElementBox::from(part)
-    };
-    let layout = g.layout(5, 3, 35, 0);
-    let (_, _, length) = Cube(layout).needs();
-    let buffer = g.bytes(length);
-    for (axis, size) in [35u32, 3, 5].into_iter().enumerate() {
-        let words = [0, 1, size - 1, size, size + 1, 1 << 31, u32::MAX - size, u32::MAX - 1, u32::MAX];
-        each!(first in words, count in words => {
-            let elements = g.elements(0, if count <= size { count as usize } else { 1 });
-            both.write_and_read(in_cube(layout, along(axis, first, count)), &elements, &buffer);
+    let mut cubes = vec![(0, [35, 3, 5]), (1, [35, 3, 5]), (2, [35, 3, 5])];
+    each!(axis in 0..3, size in EDGES.into_iter().filter(|size| (1..=8192).contains(size)) => {
+        cubes.push((axis, std::array::from_fn(|other| if other == axis { size } else { 1 })));
+    });
+    for (axis, sizes) in cubes {
+        let layout = g.layout(sizes[2], sizes[1], sizes[0], 0);
+        let (_, _, length) = Cube(layout).needs();
+        let (bytes, elements, size) = (g.bytes(length), g.elements(0, 8192), sizes[axis]);
+        let words = [&EDGES[..], &[size - 1, size, size + 1, u32::MAX - size, u32::MAX - 1]].concat();
+        each!(&first in &words, &count in &words => {
+            let mut part = [0, 0, 0, 1, 1, 1];
+            [part[axis], part[axis + 3]] = [first, count];
+            let setting = in_cube(layout, part.into());
+            both.read(setting, &bytes, &[8]);
+            if size < 100 {
+                both.write_and_read(setting, &elements[..count.min(size) as usize], &bytes);
+            }
         });
     }
-    let buffer = vec![3; 32 * 8192];
-    each!(size in EDGES.into_iter().filter(|size| (1..=8192).contains(size)), axis in 0..3 => {
-        let mut sizes = [1; 3];
-        sizes[axis] = size;
-        let layout = dense(sizes[2], sizes[1], sizes[0], 0);
-        each!(first in EDGES, count in EDGES => {
-            both.read(in_cube(layout, along(axis, first, count)), &buffer, &[8]);
-        });
-    });
     both.expect("regions_edit: 0 9; regions_read: 0 6 9");
 }

@@ -110,6 +110,10 @@ impl Session {
     }
 }
 
+/// What the calls of a list answer.
+const LISTS: &str =
+    "regions_edit: 0 1 2 3 4 5 6 7 8 9; regions_place: 0 1 2 3 4 8 9 10; regions_position: 0 1 2 3 4 8 9; regions_read: 0 1 2 3 4 5 6 8 9";
+
 #[test]
 fn lists_of_calls() {
     let (mut g, mut session) = session(20);
@@ -128,10 +132,7 @@ fn lists_of_calls() {
         }
         (0..40).for_each(|_| session.any_call(&mut g));
     }
-    session.both.expect(
-        "regions_edit: 0 1 2 3 4 5 6 7 8 9; regions_empty: 0; regions_place: 0 1 2 3 4 8 9 10; \
-         regions_position: 0 1 2 3 4 8 9; regions_read: 0 1 2 3 4 5 6 8 9",
-    );
+    session.both.expect(LISTS);
 }
 
 #[test]
@@ -146,7 +147,7 @@ fn lists_of_calls_beside_the_plain_picture() {
     }
     session.both.expect(
         "cube_pack: 0; edit beside the plain picture: 0 5 6 7 8 9; place beside the plain picture: 0 8 9 10; \
-         read beside the plain picture: 0 5 6 8 9; regions_edit: 0 5 6 7 8 9; regions_empty: 0; regions_place: 0 8 9 10; \
+         read beside the plain picture: 0 5 6 8 9; regions_edit: 0 5 6 7 8 9; regions_place: 0 8 9 10; \
          regions_position: 0 8 9; regions_read: 0 5 6 8 9",
     );
 }
@@ -154,16 +155,13 @@ fn lists_of_calls_beside_the_plain_picture() {
 #[test]
 fn tables_of_any_words() {
     let (mut g, mut session) = session(21);
-    for _ in 0..13000 {
+    for _ in 0..15000 {
         let layout = g.small_layout();
         let length = g.length_near(buffer_length(layout));
         session.set(g.any_table(layout, 5), g.bytes(length));
         (0..12).for_each(|_| session.any_call(&mut g));
     }
-    session.both.expect(
-        "regions_edit: 0 1 2 3 4 5 6 7 8 9; regions_place: 0 1 2 3 4 8 9 10; regions_position: 0 1 2 3 4 8 9; \
-         regions_read: 0 1 2 3 4 5 6 8 9",
-    );
+    session.both.expect(LISTS);
 }
 
 /// The scope paper's frame.
@@ -173,18 +171,12 @@ const FRAME: [u32; 7] = [3, 2, 40, 0, 128, 256, 0];
 #[test]
 fn overlap_of_every_pair() {
     let (_, mut both) = start(26);
-    for first in 0..4 * 3 * 4 * 3 {
-        let [column, row, columns, rows] = [first % 4, first / 4 % 3, first / 12 % 4 + 1, first / 48 + 1];
-        if column + columns > 4 || row + rows > 3 {
-            continue;
-        }
-        for second in 0..5 * 4 * 6 * 5 {
-            let slot = second % 15;
-            let other = if slot < 7 { 15 } else { 2 };
-            let mut table = with_slot([4, 3, 2, 0, 128, 384, 0].into(), other, [1, column, row, columns, rows]);
-            both.place(&mut table, slot, [second % 5, second / 5 % 4, second / 20 % 6, second / 120]);
-        }
-    }
+    each!(column in 0..4, row in 0..3, columns in 1..=4 - column, rows in 1..=3 - row, second in 0..5 * 4 * 6 * 5 => {
+        let slot = second % 15;
+        let other = if slot < 7 { 15 } else { 2 };
+        let mut table = with_slot([4, 3, 2, 0, 128, 384, 0].into(), other, [1, column, row, columns, rows]);
+        both.place(&mut table, slot, [second % 5, second / 5 % 4, second / 20 % 6, second / 120]);
+    });
     both.expect("regions_place: 0 9 10");
 }
 
@@ -258,7 +250,7 @@ fn positions_in_large_cubes() {
             both.position(Part(table, 0, ElementBox::default()), &[channel, row, column]);
         }
     });
-    both.expect("regions_empty: 0; regions_place: 0 9; regions_position: 0 8 9");
+    both.expect("regions_place: 0 9; regions_position: 0 8 9");
 }
 
 #[test]
@@ -269,6 +261,7 @@ fn empty_tables() {
         let table = both.empty(words.into());
         assert_eq!(table.layout(), words.into());
         assert!((0..17).all(|slot| table.region(slot).is_none()));
+        both.note("regions_empty", 0, 1);
     }
     both.expect("regions_empty: 0");
 }

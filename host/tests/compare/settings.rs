@@ -1,7 +1,7 @@
 //! Layouts, weights and images: the limits of their words, the order of their checks, and positions.
 
 use crate::both::{start, Both};
-use crate::calls::{in_cube, Cube, Kernels, Picture, Setting};
+use crate::calls::{in_cube, Cube, Kernels, Picture, Setting, BOXES, WEIGHTS};
 use crate::draw::{each_pair, whole, Generator, EDGES, PRECISIONS};
 use crate::reference::{each, pixels};
 use olsketina::{Image, Layout};
@@ -31,6 +31,10 @@ impl Both {
     }
 }
 
+/// All that the calls answer.
+const LAYOUTS: &str = "cube_position: 0 1 2 3 4 9; layout_check: 0 1 2 3 4; layout_extent: 0 1 2 3 4";
+const IMAGES: &str = "pixels_position: 0 1 19 20 21 22 23; pixels_setting: 0 1 19 20 21 22";
+
 /// An image in the format's own words.
 fn image(code: u32, width: u32, height: u32, x_offset: u32, start: u32, line: u32) -> Image {
     let [channels, _, precision, _] = pixels::format(code).expect("a format");
@@ -59,12 +63,7 @@ fn limits_of_every_word_and_pair_of_words() {
     for base in [[0, 64, 2, 1, 0, 31, 32, 96], [8, 8192, 8192, 4, 2, 3, 0, 65568], [17, 0, 8193, 2, 3, 32, 1, 31]] {
         each_pair(base, |words| both.checks(&mut g, Picture(words.into())));
     }
-    both.expect(
-        "cube_position: 0 1 2 3 4 9; layout_check: 0 1 2 3 4; layout_extent: 0 1 2 3 4; \
-         pixels_position: 0 1 19 20 21 22 23; pixels_setting: 0 1 19 20 21 22; \
-         regions_edit: 0 1 2 3 4 5 6 7 9; regions_read: 0 1 2 3 4 5 6 9; weights_count: 0 1 2; weights_extent: 0 1 2; \
-         weights_pack: 0 1 2 5 6 7; weights_position: 0 1 2 9; weights_unpack: 0 1 2 5 6",
-    );
+    both.expect(&format!("{LAYOUTS}; {IMAGES}; {BOXES}; {WEIGHTS}"));
 }
 
 /// The order of the checks: each subset of a layout's rules 1 to 4 broken at once.
@@ -85,10 +84,7 @@ fn several_rules_broken_at_once() {
         }
         both.layout(&mut g, words.into());
     }
-    both.expect(
-        "cube_position: 0 1 2 3 4 9; layout_check: 0 1 2 3 4; layout_extent: 0 1 2 3 4; \
-         regions_edit: 0 1 2 3 4 5 6 7 9; regions_read: 0 1 2 3 4 5 6 9",
-    );
+    both.expect(&format!("{LAYOUTS}; {BOXES}"));
 }
 
 /// Strides of cubes at and beside the least; lines of images too, for every width around multiples of 32 bytes.
@@ -165,7 +161,7 @@ fn every_format_with_every_offset_precision_and_channel_count() {
 #[test]
 fn damaged_images() {
     let (mut g, mut both) = start(51);
-    for round in 0..120000 {
+    for round in 0..122000 {
         let code = round % 17;
         let [_, bytes, _, greatest] = pixels::format(code).expect("a format");
         let [width, height] = [g.pick(&[1, 2, 3, 31, 32, 33, 640, 8191, 8192]), g.pick(&[1, 2, 480, 8191, 8192])];
@@ -174,5 +170,5 @@ fn damaged_images() {
         let image = g.damaged(2, image(code, width, height, offset, start, line));
         both.checks(&mut g, Picture(image));
     }
-    both.expect("pixels_position: 0 1 19 20 21 22 23; pixels_setting: 0 1 19 20 21 22");
+    both.expect(IMAGES);
 }

@@ -30,9 +30,9 @@ impl Session {
         same("bytes read, row", &[given], &[plain], case);
         same("state", &self.sheet.state, &theirs.state, case);
         same("text", &self.sheet.text, &theirs.text, case);
-        self.both.note("parts", 0);
+        self.both.note("parts", 0, 1);
         if let (_, Some(row)) = given {
-            self.both.note("lines", number(&row.answer));
+            self.both.note("lines", number(&row.answer), 1);
             same("row's text", &row.text(), &reference::sheet::text(&row), case);
             self.rows.push(row);
         }
@@ -136,37 +136,23 @@ fn any_sheet(g: &mut Generator, count: u64) -> Vec<u8> {
     [lines.join(&b'\n'), g.pick(&[&b""[..], b"\n", b"\n", b"\n\n"]).to_vec()].concat()
 }
 
+/// One row for each newline, and one for a last line without. Of some sheets each cut in two gives the same rows; so do single bytes and parts of
+/// any length.
 #[test]
-fn whole_sheets() {
+fn whole_sheets_and_their_parts() {
     let (mut g, mut session) = session(100);
-    for _ in 0..10000 {
-        let lines = g.below(40);
+    for round in 0..10800 {
+        let lines = if round < 200 { 8 } else { g.below(40) };
         let input = any_sheet(&mut g, lines);
         let rows = session.whole(&input, &[]);
-        // One row for each newline, and one for a last line without.
         let newlines = input.iter().filter(|&&byte| byte == b'\n').count();
         let unended = input.last().is_some_and(|&byte| byte != b'\n');
-        assert_eq!(rows.len(), newlines + usize::from(unended));
-        assert!(rows.iter().map(|row| row.line).eq(1..=rows.len() as u64));
-    }
-    session.both.expect(ANSWERS);
-}
-
-/// Each cut in two gives the rows of the whole; so do single bytes and parts of any length.
-#[test]
-fn sheets_in_parts() {
-    let (mut g, mut session) = session(101);
-    for _ in 0..200 {
-        let input = any_sheet(&mut g, 8);
-        let rows = session.whole(&input, &[]);
-        for cut in 0..=input.len() {
-            assert_eq!(session.whole(&input, &[cut]), rows);
-        }
-        let every: Vec<usize> = (0..input.len()).collect();
-        assert_eq!(session.whole(&input, &every), rows);
-        for _ in 0..20 {
-            let some: Vec<usize> = (0..input.len()).filter(|_| g.one_in(9)).collect();
-            assert_eq!(session.whole(&input, &some), rows);
+        assert!(rows.iter().map(|row| row.line).eq(1..=(newlines + usize::from(unended)) as u64));
+        if round < 200 {
+            let mut cuts: Vec<Vec<usize>> = (0..=input.len()).map(|cut| vec![cut]).collect();
+            cuts.push((0..input.len()).collect());
+            cuts.extend((0..20).map(|_| (0..input.len()).filter(|_| g.one_in(9)).collect()));
+            cuts.iter().for_each(|cuts| assert_eq!(session.whole(&input, cuts), rows));
         }
     }
     session.both.expect(ANSWERS);
@@ -225,7 +211,7 @@ fn state(words: [u32; reference::sheet::TABLE], table: Table) -> [u32; raw::STAT
 #[test]
 fn hand_made_states() {
     let (mut g, mut session) = session(102);
-    for _ in 0..40000 {
+    for _ in 0..64000 {
         let layout = g.layout(6, 3, 21, 0);
         let line = any_line(&mut g, &[0, 0, 1]);
         let held = g.index(line.len() + 1).min(120);
@@ -296,7 +282,7 @@ fn texts() {
         let answer = if number == 0 { Ok(value) } else { Err(Refusal { number, fault: 0 }) };
         let row = Row { line, answer };
         same("row's text", &row.text(), &reference::sheet::text(&row), format_args!("{row:?}"));
-        both.note("script_row_text", 0);
+        both.note("script_row_text", 0, 1);
     });
     assert_eq!(Row { line: u64::MAX, answer: Ok(u64::MAX) }.text(), b"18446744073709551615\t0\t18446744073709551615\n");
     both.expect("script_row_text: 0");

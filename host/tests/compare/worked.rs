@@ -27,27 +27,27 @@ fn cubes() {
 
 #[test]
 fn weights() {
-    let at = |weights: Weights, index: usize, byte: usize| {
-        let count = weights.count().expect("accepted") as usize;
-        let mut elements = vec![0; count];
+    let int8 = [3, 65, 1, 2, 0];
+    let positions = [
+        (int8, (65 + 64) * 2 + 1, [1, 64, 0, 1], 388),
+        (int8, (2 * 65 + 5) * 2, [2, 5, 0, 0], 133),
+        ([17, 1, 1, 1, 1], 16, [16, 0, 0, 0], 32),
+    ];
+    for (words, index, [k, c, r, s], byte) in positions {
+        let weights = Weights::from(words);
+        let mut elements = vec![0; weights.count().expect("accepted") as usize];
         elements[index] = 1;
-        let mut buffer = vec![9; 512];
+        let mut buffer = [9; 512];
         assert_eq!(weights.pack(&elements, &mut buffer), Ok(()));
-        assert_eq!(buffer.iter().position(|&written| written == 1), Some(byte));
-    };
-    let weights = Weights::from([3, 65, 1, 2, 0]);
+        assert_eq!(buffer.iter().position(|&written| written == 1), Some(byte as usize));
+        assert_eq!(weights.position(k, c, r, s), Ok(byte));
+    }
+    let weights = Weights::from(int8);
     assert_eq!((weights.count(), weights.extent()), (Ok(390), Ok(512)));
-    at(weights, (65 + 64) * 2 + 1, 388);
-    assert_eq!(weights.position(1, 64, 0, 1), Ok(388));
-    at(weights, (2 * 65 + 5) * 2, 133);
-    assert_eq!(weights.position(2, 5, 0, 0), Ok(133));
     let mut buffer = [9; 513];
     assert_eq!(weights.pack(&[1; 390], &mut buffer), Ok(()));
-    assert!(buffer[..390].iter().all(|&byte| byte == 1));
-    assert!(buffer[390..512].iter().all(|&byte| byte == 0));
-    assert_eq!(buffer[512], 9);
+    assert_eq!(buffer[..], [&[1; 390][..], &[0; 122], &[9]].concat());
     assert_eq!(weights.pack(&[1; 390], &mut buffer[..511]), refused(5));
-    at([17, 1, 1, 1, 1].into(), 16, 32);
 }
 
 /// One sample's answer, and the counters after it.
@@ -84,9 +84,7 @@ fn lookups() {
 
 #[test]
 fn conversions() {
-    assert_eq!(convert(100, 128, 3, 2, 0), Ok(-21));
-    assert_eq!(convert(100, 128, 3, 2, 1), Ok(-21));
-    assert_eq!(convert(255, 0, 1, 0, 0), Ok(127));
+    assert_eq!([convert(100, 128, 3, 2, 0), convert(100, 128, 3, 2, 1), convert(255, 0, 1, 0, 0)], [Ok(-21), Ok(-21), Ok(127)]);
 }
 
 #[test]

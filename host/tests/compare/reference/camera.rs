@@ -3,13 +3,9 @@
 use super::require;
 use olsketina::{Answer, Choice, Lookup, Mode, Refusal, TableSettings};
 
-/// The greatest whole e with e² ≤ n.
+/// The greatest whole e with e² ≤ n: the first whose successor has a greater square.
 fn square_root(n: u64) -> u64 {
-    let mut e = 0;
-    while (e + 1) * (e + 1) <= n {
-        e += 1;
-    }
-    e
+    (0..).find(|e| (e + 1) * (e + 1) > n).expect("a root")
 }
 
 pub fn y_entry(i: u32) -> i16 {

@@ -2,6 +2,7 @@
 
 use super::require;
 use olsketina::{Answer, Counters, Lookup, Mode, Refusal, Slope, TableSettings};
+use std::cmp::Ordering::{self, Equal as Hit, Greater as Above, Less as Below};
 
 /// distance · scale over 2^shift, rounded down.
 fn over(slope: Slope, distance: i128) -> i128 {
@@ -19,14 +20,6 @@ struct Table<'a> {
     entries: &'a [i16],
 }
 
-/// Where a sample lies for one table.
-#[derive(Clone, Copy, PartialEq)]
-enum Side {
-    Below,
-    Hit,
-    Above,
-}
-
 impl Table<'_> {
     fn entry(&self, i: i128) -> i128 {
         self.entries[i as usize].into()
@@ -36,15 +29,16 @@ impl Table<'_> {
         self.entries.len() as i128 - 1
     }
 
-    fn side(&self, x: i128) -> Side {
+    /// Where a sample lies for the table.
+    fn side(&self, x: i128) -> Ordering {
         let [select, start, end] = numbers(&self.settings);
         let d = x - start;
         match self.mode {
-            Mode::Linear if d < 0 => Side::Below,
-            Mode::Linear if x > end => Side::Above,
-            Mode::Linear => Side::Hit,
-            Mode::Exponential if d >= 1 && (select < 0 || d >= 1 << select) => Side::Hit,
-            Mode::Exponential => Side::Below,
+            Mode::Linear if d < 0 => Below,
+            Mode::Linear if x > end => Above,
+            Mode::Linear => Hit,
+            Mode::Exponential if d >= 1 && (select < 0 || d >= 1 << select) => Hit,
+            Mode::Exponential => Below,
         }
     }
 
@@ -62,10 +56,7 @@ impl Table<'_> {
             Mode::Linear if x == end => self.entry(self.last()),
             Mode::Linear => self.between(d / (1 << select), d % (1 << select), 1 << select),
             Mode::Exponential => {
-                let mut p = 0;
-                while 1 << (p + 1) <= d {
-                    p += 1;
-                }
+                let p = (0..).find(|p| 1 << (p + 1) > d).expect("floor(log2 d)");
                 self.between(p - select, d - (1 << p), 1 << p)
             }
         }
@@ -74,9 +65,9 @@ impl Table<'_> {
     fn value(&self, x: i128) -> i32 {
         let [_, start, end] = numbers(&self.settings);
         let exact = match self.side(x) {
-            Side::Below => self.entry(0) + over(self.settings.below, x - start),
-            Side::Hit => self.hit(x),
-            Side::Above => self.entry(self.last()) + over(self.settings.above, x - end),
+            Below => self.entry(0) + over(self.settings.below, x - start),
+            Hit => self.hit(x),
+            Above => self.entry(self.last()) + over(self.settings.above, x - end),
         };
         exact.clamp(i32::MIN.into(), i32::MAX.into()) as i32
     }
@@ -125,12 +116,12 @@ pub fn run(l: &Lookup, xs: &[i16], ys: &[i16], samples: &[i32], outputs: &mut [i
     for (&sample, output) in samples.iter().zip(outputs) {
         let sample = sample.into();
         let (kind, from_y) = match (x.side(sample), y.side(sample)) {
-            (Side::Hit, Side::Hit) => (PRIORITY, l.priority),
-            (Side::Hit, _) => (X_ONLY, false),
-            (_, Side::Hit) => (Y_ONLY, true),
-            (Side::Above, Side::Above) => (OVERFLOW, l.overflow),
-            (Side::Below, Side::Below) => (UNDERFLOW, l.underflow),
-            (Side::Above, Side::Below) | (Side::Below, Side::Above) => (PRIORITY, l.priority),
+            (Hit, Hit) => (PRIORITY, l.priority),
+            (Hit, _) => (X_ONLY, false),
+            (_, Hit) => (Y_ONLY, true),
+            (Above, Above) => (OVERFLOW, l.overflow),
+            (Below, Below) => (UNDERFLOW, l.underflow),
+            (Above, Below) | (Below, Above) => (PRIORITY, l.priority),
         };
         *output = if from_y { &y } else { &x }.value(sample);
         counters[kind] += 1;

@@ -30,9 +30,5 @@ pub fn refuse<T>(number: u32) -> Answer<T> {
 
 /// Refuses with `number` unless the rule holds.
 pub fn require(rule: bool, number: u32) -> Answer<()> {
-    if rule {
-        Ok(())
-    } else {
-        refuse(number)
-    }
+    rule.then_some(()).ok_or(Refusal { number, fault: 0 })
 }
