@@ -5,17 +5,17 @@ use crate::draw::{buffer_length, product, with_slot, Generator, EDGES};
 use crate::reference::{cube, pixels, regions, weights};
 use olsketina::{ElementBox, Image, Layout, Region, Table, Weights};
 
-/// A setting with positions, and all but a picture's with elements and packed bytes.
+/// A setting with positions, and all but an image's with elements and packed bytes.
 #[derive(Clone, Copy, Debug)]
 #[allow(clippy::large_enum_variant)]
 pub enum Setting {
     Cube(Layout),
     Kernels(Weights),
-    Picture(Image),
+    Pixels(Image),
     /// A box, counted from the corner of the region in a slot.
     Part(Table, u32, ElementBox),
 }
-pub use Setting::{Cube, Kernels, Part, Picture};
+pub use Setting::{Cube, Kernels, Part, Pixels};
 
 impl Setting {
     /// How many there are of each index.
@@ -23,7 +23,7 @@ impl Setting {
         match self {
             Cube(of) => vec![of.channels, of.height, of.width],
             Kernels(of) => vec![of.kernels, of.channels, of.rows, of.columns],
-            Picture(of) => vec![of.width, of.height],
+            Pixels(of) => vec![of.width, of.height],
             Part(_, _, of) => vec![of.channels, of.rows, of.columns],
         }
     }
@@ -33,7 +33,7 @@ impl Setting {
         let (precision, bytes) = match self {
             Cube(of) => (of.precision, buffer_length(of)),
             Kernels(of) => (of.precision, weights::extent(of).unwrap_or(0) as usize),
-            Picture(of) => (of.precision, 0),
+            Pixels(of) => (of.precision, 0),
             Part(table, ..) => (table.layout().precision, buffer_length(table.layout())),
         };
         (precision, product(&self.sizes()), bytes)
@@ -62,7 +62,7 @@ impl Both {
                 compare!(self, "weights_count", Weights::count, weights::count, of);
                 compare!(self, "weights_extent", Weights::extent, weights::extent, of);
             }
-            Picture(of) => drop(compare!(self, "pixels_setting", Image::check, pixels::check, of)),
+            Pixels(of) => drop(compare!(self, "pixels_setting", Image::check, pixels::check, of)),
             Part(..) => {}
         }
     }
@@ -71,7 +71,7 @@ impl Both {
         match (setting, at) {
             (Cube(of), &[c, h, w]) => compare!(self, "cube_position", Layout::position, cube::position, of, c, h, w),
             (Kernels(of), &[k, c, r, s]) => compare!(self, "weights_position", Weights::position, weights::position, of, k, c, r, s),
-            (Picture(of), &[x, y]) => compare!(self, "pixels_position", Image::position, pixels::position, of, x, y),
+            (Pixels(of), &[x, y]) => compare!(self, "pixels_position", Image::position, pixels::position, of, x, y),
             (Part(table, slot, _), &[c, h, w]) => {
                 compare!(self, "regions_position", Table::position, regions::position, &table, slot, c, h, w)
             }
@@ -85,7 +85,7 @@ impl Both {
             Cube(of) => compare!(self, "cube_pack", Layout::pack, cube::pack, of; elements, old),
             Kernels(of) => compare!(self, "weights_pack", Weights::pack, weights::pack, of; elements, old),
             Part(table, slot, part) => compare!(self, "regions_edit", Table::edit, regions::edit, &table, slot, part; elements, old),
-            Picture(_) => panic!("{setting:?} has no elements"),
+            Pixels(_) => panic!("{setting:?} has no elements"),
         }
     }
 
@@ -95,7 +95,7 @@ impl Both {
             Cube(of) => compare!(self, "cube_unpack", Layout::unpack, cube::unpack, of; bytes, old),
             Kernels(of) => compare!(self, "weights_unpack", Weights::unpack, weights::unpack, of; bytes, old),
             Part(table, slot, part) => compare!(self, "regions_read", Table::read, regions::read, &table, slot, part; bytes, old),
-            Picture(_) => panic!("{setting:?} has no elements"),
+            Pixels(_) => panic!("{setting:?} has no elements"),
         }
     }
 

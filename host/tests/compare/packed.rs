@@ -114,7 +114,7 @@ fn larger_cubes() {
 #[test]
 fn refusals_and_their_order() {
     let (mut g, mut both) = start(14);
-    for _ in 0..62000 {
+    for _ in 0..63500 {
         let layout = g.small_layout();
         let part = g.inner_box(layout.channels, layout.height, layout.width);
         let channels = if g.one_in(20) { g.among(60, 70) } else { g.among(1, 8) };

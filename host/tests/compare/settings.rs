@@ -1,7 +1,7 @@
 //! Layouts, weights and images: the limits of their words, the order of their checks, and positions.
 
 use crate::both::{start, Both};
-use crate::calls::{in_cube, Cube, Kernels, Picture, Setting, BOXES, WEIGHTS};
+use crate::calls::{in_cube, Cube, Kernels, Pixels, Setting, BOXES, WEIGHTS};
 use crate::draw::{each_pair, whole, Generator, EDGES, PRECISIONS};
 use crate::reference::{each, pixels};
 use olsketina::{Image, Layout};
@@ -61,7 +61,7 @@ fn limits_of_every_word_and_pair_of_words() {
         both.lengths(&mut g, Kernels(base.into()), Kernels(words.into()), 1000);
     });
     for base in [[0, 64, 2, 1, 0, 31, 32, 96], [8, 8192, 8192, 4, 2, 3, 0, 65568], [17, 0, 8193, 2, 3, 32, 1, 31]] {
-        each_pair(base, |words| both.checks(&mut g, Picture(words.into())));
+        each_pair(base, |words| both.checks(&mut g, Pixels(words.into())));
     }
     both.expect(&format!("{LAYOUTS}; {IMAGES}; {BOXES}; {WEIGHTS}"));
 }
@@ -106,7 +106,7 @@ fn strides_at_and_beside_the_least() {
             let least: u32 = (offset + width) * bytes;
             let round = least.next_multiple_of(32);
             for line in [least, least - 1, round, round - 32, round + 32, round + 1] {
-                both.checks(&mut g, Picture(image(code, width, 3, offset, 0, line)));
+                both.checks(&mut g, Pixels(image(code, width, 3, offset, 0, line)));
             }
         });
     }
@@ -126,7 +126,7 @@ fn every_position_of_small_settings() {
     for code in 0..17 {
         let [.., greatest] = pixels::format(code).expect("a format");
         for offset in 0..=greatest {
-            both.every_position(Picture(image(code, 5, 3, offset, 96, 320)));
+            both.every_position(Pixels(image(code, 5, 3, offset, 96, 320)));
         }
     }
     both.expect("cube_position: 0 9; pixels_position: 0 23; weights_position: 0 9");
@@ -153,7 +153,7 @@ fn every_format_with_every_offset_precision_and_channel_count() {
     let (mut g, mut both) = start(50);
     let codes = (0..=18).chain([255, 1 << 31, u32::MAX]);
     each!(code in codes, offset in 0..=33, precision in PRECISIONS, channels in [0, 1, 2, 3, 4, 5, u32::MAX] => {
-        both.checks(&mut g, Picture([code, 640, 480, channels, precision, offset, 64, 8192].into()));
+        both.checks(&mut g, Pixels([code, 640, 480, channels, precision, offset, 64, 8192].into()));
     });
     both.expect("pixels_position: 0 19 20 21 23; pixels_setting: 0 19 20 21");
 }
@@ -168,7 +168,7 @@ fn damaged_images() {
         let [offset, start] = [g.among(0, greatest), g.pick(&[0, 32, 1 << 31, u32::MAX - 31])];
         let line = ((offset + width) * bytes).next_multiple_of(32) + g.pick(&[0, 0, 32, 320]);
         let image = g.damaged(2, image(code, width, height, offset, start, line));
-        both.checks(&mut g, Picture(image));
+        both.checks(&mut g, Pixels(image));
     }
     both.expect(IMAGES);
 }
