@@ -23,9 +23,11 @@ impl Both {
     fn every_position(&mut self, setting: Setting) {
         let sizes = setting.sizes();
         for number in 0..sizes.iter().map(|size| size + 1).product() {
-            let mut rest: u32 = number;
-            let mut digit = |size| (rest % (size + 1), rest /= size + 1).0;
-            let at: Vec<u32> = sizes.iter().map(|&size| digit(size)).collect();
+            let (mut rest, mut at): (u32, Vec<u32>) = (number, Vec::new());
+            for size in &sizes {
+                at.push(rest % (size + 1));
+                rest /= size + 1;
+            }
             self.position(setting, &at);
         }
     }
