@@ -29,7 +29,7 @@ fn main() {
         }
         exports.push(signatures::exports_of(&path));
     }
-    fs::write(out.join("raw.rs"), signatures::declarations(&exports, "")).expect("written");
+    fs::write(out.join("raw.rs"), signatures::declarations(&exports)).expect("written");
     let header = repository.join("include/olsketina.h");
     println!("cargo:rerun-if-changed={}", header.display());
     let text = fs::read_to_string(header).expect("the header is there");

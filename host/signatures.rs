@@ -116,14 +116,14 @@ impl Parameter {
     }
 }
 
-/// The Rust declarations; in the archive the functions' names begin with `prefix`.
-pub fn declarations(exports: &[Exports], prefix: &str) -> String {
+/// The Rust declarations.
+pub fn declarations(exports: &[Exports]) -> String {
     let constants: BTreeMap<_, _> = exports.iter().flat_map(|exports| &exports.constants).cloned().collect();
     let constant = |(name, value)| format!("#[allow(dead_code)]\npub const {name}: usize = {value};\n");
     let function = |Function { name, parameters, result }: &Function| {
         let parameters: Vec<String> = parameters.iter().map(Parameter::rust).collect();
         let result = result.as_ref().map_or(String::new(), |result| format!(" -> {result}"));
-        format!("    #[link_name = \"{prefix}{name}\"]\n    pub fn {name}({}){result};\n", parameters.join(", "))
+        format!("    pub fn {name}({}){result};\n", parameters.join(", "))
     };
     let functions: String = exports.iter().flat_map(|exports| &exports.functions).map(function).collect();
     format!("{}extern \"C\" {{\n{functions}}}\n", constants.iter().map(constant).collect::<String>())

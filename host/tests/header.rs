@@ -210,8 +210,8 @@ fn signatures_are_read() {
     signatures::read(&format!("pub const N: usize = 4; // four\n{source}"), &mut exports);
     let exports = [exports];
     assert_eq!(
-        signatures::declarations(&exports, "old_"),
-        "#[allow(dead_code)]\npub const N: usize = 4;\nextern \"C\" {\n    #[link_name = \"old_f\"]\n    \
+        signatures::declarations(&exports),
+        "#[allow(dead_code)]\npub const N: usize = 4;\nextern \"C\" {\n    \
          pub fn f(a: *const f32, a_len: usize, b: &mut [f64; 2 * N], c: f32, d: &mut usize) -> f64;\n}\n"
     );
     let c = c_file(&exports, &[("2 * N".to_string(), "8".to_string())]);
@@ -236,7 +236,20 @@ fn the_archives_have_the_names_of_the_sources() {
     }
 }
 
-/// The header's sentences and names of the refusals are those of the Rust library.
+/// A refusal's name, as the header writes it, and number, from a clause of the definition: `codeOf XSelect = 12`.
+fn defined_refusal(clause: &str) -> Option<(String, u32)> {
+    let (variant, number) = clause.strip_prefix("codeOf ")?.split_once(" = ")?;
+    let mut name = String::new();
+    for (letter, next) in variant.chars().zip(variant.chars().skip(1).chain(['-'])) {
+        if letter.is_uppercase() && next.is_lowercase() && !name.is_empty() {
+            name.push('_');
+        }
+        name.push(letter.to_ascii_uppercase());
+    }
+    Some((name, number.parse().ok()?))
+}
+
+/// The refusals of header and Rust library have the names and numbers of their definition, and C's sentences are Rust's.
 #[test]
 fn refusals_are_the_same() {
     let folder = folder_with("refusals", &header());
@@ -249,8 +262,10 @@ fn refusals_are_the_same() {
         assert_eq!(line, olsketina::Refusal { number, fault: 0 }.sentence(), "{number}");
     }
     assert_eq!(output.lines().count(), 40);
-    for (name, number) in olsketina::Refusal::ALL {
-        assert!(header().contains(&format!(" OLSKETINA_REFUSED_{name} = {number}")), "{name} = {number}");
-    }
+    let codes = fs::read_to_string(repository().join("crates/refusal/specs/Codes.antt")).expect("the definition is there");
+    let defined: Vec<(String, u32)> = codes.lines().filter_map(defined_refusal).collect();
+    let named: Vec<(String, u32)> = olsketina::Refusal::ALL.iter().map(|(name, number)| (name.to_string(), *number)).collect();
+    assert_eq!(named, defined);
+    assert_eq!(header().matches("OLSKETINA_REFUSED_").count(), 2 * defined.len());
     assert!(header().contains(&format!("#define OLSKETINA_VERSION {}\n", olsketina::version())));
 }
