@@ -2,7 +2,7 @@
 -- Assumes nothing.
 use Prim.Native.Nat.{ℕ, _+_, _*_, _^_, _≤_, _<_}
 use native.Mathlib.Omega.{arith}
-use mathlib.Core.Path.{_≡_, refl, ap, _∙_}
+use mathlib.Core.Path.{_≡_, refl}
 use mathlib.Core.List.{List, [], flatten}
 use lib.ListN.{length}
 use lib.IntN.{ℤ, pos}
@@ -15,17 +15,14 @@ use Rattle.lut.specs.declared.LutSettings.{LutSettings}
 use Rattle.camera.specs.declared.Choice.{Choice}
 use Rattle.camera.specs.declared.Ready.the-variants.{Setting}
 use Rattle.camera.specs.Ready.{readyAnswer}
-use Rattle.lines.specs.Texts.{partLength, linesOf}
-use Rattle.lines.specs.Collecting.{added, collected}
+use Rattle.lines.specs.Texts.{linesOf}
 use Rattle.script.specs.declared.Sheet.{Sheet}
 use Rattle.script.specs.declared.Row.{Row}
 use Rattle.script.specs.declared.Given.the-variants.{Nothing, Line}
-use Rattle.script.specs.Rows.{Desk}
 use Rattle.script.specs.Sheets.{sheet}
 use Rattle.script.specs.Output.{fieldsText, rowText}
-use Rattle.script.specs.Feed.{startSheet, fed, finished}
-use Rattle.script.proofs.Claims.{however-cut}
-use Rattle.olsketina.specs.Sizes.{layoutSize, slotSize, slotCount, tableSize, stateSize}
+use Rattle.script.specs.Feed.{fed, finished}
+use Rattle.olsketina.specs.Sizes.{layoutSize, slotSize, slotCount, tableSize, frameWord, stateSize}
 use Rattle.olsketina.specs.Words.{word}
 use Rattle.olsketina.specs.Tables.{tableAt, withTable, Outside}
 use Rattle.olsketina.specs.Lookups.{countersFrom, counterWords}
@@ -54,7 +51,7 @@ place-back l n g long = place.place-back l n g long
 pub place-alone : (l : List ℕ) (n : ℕ) (g : Rectangle) → length l ≡ tableSize → (p : ℕ) → Outside (layoutSize + slotSize * n) slotSize p
     → let t = tableAt l 0 in
     word (leaves (placeAnswer t n g) (withTable (placeTable t n g) 0 l) l) p ≡ word l p
-place-alone l n g long p out = place.place-alone l n g long p out
+place-alone l n g long p out = place.place-alone l n g p out
 
 -- ---- lookups
 
@@ -76,33 +73,23 @@ sheet-back s l slots long = state.sheet-back s l long slots
 pub empty-part : (l text : List ℕ) → word l 0 < 2 ^ 32
     → let f = fed (sheetFrom l text) [] in
     (withSheet (f .sheet) l ≡ l) × (f .sheet .lines .line .bytes ≡ text) × (f .read ≡ 0) × (f .given ≡ Nothing)
-empty-part l text h =
-    let same = nothing (sheetFrom l text) in
-    rw same ((state.sheet-over l text h, (unfold sheetFrom in refl), refl, refl))
-  where
-    nothing : (s : Sheet) → fed s [] ≡ record { sheet = s; read = 0; given = Nothing }
-    nothing s = unfold fed collected added partLength in refl
+empty-part l text h = feed.empty-part l text h
 
 -- a record that is refused, as its row says, leaves the frame word and the table's words
 pub refused-record : (l text part : List ℕ) → length l ≡ stateSize
     → let f = fed (sheetFrom l text) part in
-    HasRefusal (f .given) → (p : ℕ) → 3 ≤ p → word (withSheet (f .sheet) l) p ≡ word l p
-refused-record l text part long r p h =
-    let same = feed.fed-refused (sheetFrom l text) part r in
-    state.desk-same (fed (sheetFrom l text) part .sheet) l long (ap (λ (d : Desk). d .framed) same ∙ unfold sheetFrom in refl) (ap (λ (d : Desk). d .table) same ∙ unfold sheetFrom in refl) p h
+    HasRefusal (f .given) → (p : ℕ) → frameWord ≤ p → word (withSheet (f .sheet) l) p ≡ word l p
+refused-record l text part long r p h = feed.refused-record l text part r p h
 
 pub refused-last : (l text : List ℕ) → length l ≡ stateSize
     → let f = finished (sheetFrom l text) in
-    HasRefusal (f .given) → (p : ℕ) → 3 ≤ p → word (withSheet (f .sheet) l) p ≡ word l p
-refused-last l text long r p h =
-    let same = feed.finished-refused (sheetFrom l text) r in
-    state.desk-same (finished (sheetFrom l text) .sheet) l long (ap (λ (d : Desk). d .framed) same ∙ unfold sheetFrom in refl) (ap (λ (d : Desk). d .table) same ∙ unfold sheetFrom in refl) p h
+    HasRefusal (f .given) → (p : ℕ) → frameWord ≤ p → word (withSheet (f .sheet) l) p ≡ word l p
+refused-last l text long r p h = feed.refused-last l text r p h
 
 -- however the input is cut into parts, the calls over words, begun over any, give the rows of the whole input, if it has fewer than 2^64 lines
 pub however-cut-words : (h : Held) → length (h .words) ≡ stateSize → (parts : List (List ℕ)) → length (linesOf (flatten parts)) < 2 ^ 64
     → rowsHeld (begun h) parts ≡ wordsOf (sheet (flatten parts))
-however-cut-words h long parts few =
-    feed.rows-held parts (begun h) startSheet (feed.holding-says h startSheet long (unfold startSheet in refl)) ∙ ap wordsOf (however-cut parts few)
+however-cut-words h long parts few = feed.however-cut-words h long parts few
 
 -- a row's words give the text of the row
 pub row-words-text : (r : Row) → let w = rowWords (Line r) in fieldsText (word w 1) (word w 2) (pos (word w 4)) ≡ rowText r

@@ -1,18 +1,20 @@
 -- A sheet's calls over words. Words that say a state go with it through every call, by `sheet-back`: so the rows are those of the calls over states.
 -- Assumes nothing.
---     fed-refused, finished-refused      a refused record leaves frame and table
---     rows-held                          the rows of all calls
-use Prim.Native.Nat.{ℕ, zero, suc}
+--     refused-record, refused-last      a refused record leaves the words of frame and table
+--     empty-part                        an empty part leaves every word
+--     however-cut-words                 the rows of all calls
+use Prim.Native.Nat.{ℕ, zero, suc, _^_, _≤_, _<_}
 use mathlib.Core.Path.{_≡_, refl, sym, ap, _∙_, subst}
 use mathlib.Core.Bool.{Bool, true, false, cond}
-use mathlib.Core.List.{List, [], _∷_, map, map-append}
+use mathlib.Core.List.{List, [], _∷_, map-append, flatten}
 use lib.ListN.{length, drop}
 use lib.Dec.{eqb}
 use Rattle.refusal.specs.declared.Answer.{Answer}
 use Rattle.refusal.specs.declared.Answer.the-variants.{Accepted, Refused}
 use Rattle.refusal.specs.Checks.{leaves}
 use Rattle.regions.specs.Slots.{rectangle}
-use Rattle.lines.specs.Collecting.{collected}
+use Rattle.lines.specs.Texts.{partLength, linesOf}
+use Rattle.lines.specs.Collecting.{added, collected}
 use Rattle.records.specs.declared.Record.{Record}
 use Rattle.records.specs.declared.Record.the-variants.{Frame, Stall, Cell, Unreadable}
 use Rattle.records.specs.Records.{lineRecord}
@@ -22,14 +24,15 @@ use Rattle.script.specs.declared.Given.{Given}
 use Rattle.script.specs.declared.Given.the-variants.{Nothing, Line}
 use Rattle.script.specs.declared.Fed.{Fed}
 use Rattle.script.specs.Rows.{Desk, recordAnswer, recordDone, deskAfter}
-use Rattle.script.specs.Sheets.{rowOf}
-use Rattle.script.specs.Feed.{deskOf, withLines, lineEnded, lineRow, lineFed, fed, finished, andThen, partFed, rowsOfParts}
-use Rattle.script.proofs.Claims.{refused-changes-nothing}
-use Rattle.olsketina.specs.Sizes.{slotCount, stateSize}
-use Rattle.olsketina.specs.Sheets.{rowWords, HasRefusal}
-use Rattle.olsketina.specs.Feeding.{Held, heldSheet, holding, rowThen, partHeld, rowsHeld, wordsOf}
+use Rattle.script.specs.Sheets.{rowOf, sheet}
+use Rattle.script.specs.Feed.{startSheet, deskOf, withLines, lineEnded, lineRow, lineFed, fed, finished, andThen, partFed, rowsOfParts}
+use Rattle.script.proofs.Claims.{refused-changes-nothing, however-cut}
+use Rattle.olsketina.specs.Sizes.{slotCount, frameWord, stateSize}
+use Rattle.olsketina.specs.Words.{word}
+use Rattle.olsketina.specs.Sheets.{sheetFrom, withSheet, rowWords, HasRefusal}
+use Rattle.olsketina.specs.Feeding.{Held, heldSheet, holding, begun, rowThen, partHeld, rowsHeld, wordsOf}
 use Rattle.olsketina.proofs.PlaceLaws.{placed-all}
-use Rattle.olsketina.proofs.SheetLaws.{sheet-back, sheet-length}
+use Rattle.olsketina.proofs.SheetLaws.{sheet-back, sheet-over, sheet-length, desk-same}
 
 -- a call that ended no line
 abbrev openFed : Sheet → ℕ → Fed
@@ -44,7 +47,7 @@ ended-refused s r = go (recordAnswer (deskOf s) (lineRecord (s .lines .line))) r
     go Accepted e = absurd (r (rw e))
     go (Refused x i) e = refused-changes-nothing (deskOf s) (lineRecord (s .lines .line)) e .0
 
-pub fed-refused : (s : Sheet) (part : List ℕ) → HasRefusal (fed s part .given) → deskOf (fed s part .sheet) ≡ deskOf s
+fed-refused : (s : Sheet) (part : List ℕ) → HasRefusal (fed s part .given) → deskOf (fed s part .sheet) ≡ deskOf s
 unfolding fed
 fed-refused s part = go (collected (s .lines) part .ended)
   where
@@ -53,13 +56,32 @@ fed-refused s part = go (collected (s .lines) part .ended)
     go true r = ended-refused (withLines s (collected (s .lines) part .lines)) r
     go false r = refl
 
-pub finished-refused : (s : Sheet) → HasRefusal (finished s .given) → deskOf (finished s .sheet) ≡ deskOf s
+finished-refused : (s : Sheet) → HasRefusal (finished s .given) → deskOf (finished s .sheet) ≡ deskOf s
 unfolding finished
 finished-refused s = go (eqb (s .lines .line .length) 0)
   where
     go : (b : Bool) → (let f = cond b (openFed s 0) (lineFed s 0) in HasRefusal (f .given) → deskOf (f .sheet) ≡ deskOf s)
     go true r = refl
     go false r = ended-refused s r
+
+pub refused-record : (l text part : List ℕ)
+    → let f = fed (sheetFrom l text) part in
+    HasRefusal (f .given) → (p : ℕ) → frameWord ≤ p → word (withSheet (f .sheet) l) p ≡ word l p
+refused-record l text part r = desk-same (fed (sheetFrom l text) part .sheet) l text (fed-refused (sheetFrom l text) part r)
+
+pub refused-last : (l text : List ℕ)
+    → let f = finished (sheetFrom l text) in
+    HasRefusal (f .given) → (p : ℕ) → frameWord ≤ p → word (withSheet (f .sheet) l) p ≡ word l p
+refused-last l text r = desk-same (finished (sheetFrom l text) .sheet) l text (finished-refused (sheetFrom l text) r)
+
+-- ---- an empty part
+fed-empty : (s : Sheet) → fed s [] ≡ openFed s 0
+fed-empty s = unfold fed collected added partLength in refl
+
+pub empty-part : (l text : List ℕ) → word l 0 < 2 ^ 32
+    → let f = fed (sheetFrom l text) [] in
+    (withSheet (f .sheet) l ≡ l) × (f .sheet .lines .line .bytes ≡ text) × (f .read ≡ 0) × (f .given ≡ Nothing)
+empty-part l text h = rw (fed-empty (sheetFrom l text)) ((sheet-over l text h, (unfold sheetFrom in refl), refl, refl))
 
 -- ---- the number of slots stays
 desk-slots : (d : Desk) (r : Record) → length (d .table .slots) ≡ slotCount → length (deskAfter d r .table .slots) ≡ slotCount
@@ -86,14 +108,14 @@ fed-slots s part h = go (collected (s .lines) part .ended)
     go false = h
 
 -- ---- words that say a state
-pub record Says (h : Held) (s : Sheet) : Type 0 where
+record Says (h : Held) (s : Sheet) : Type 0 where
   pub long : length (h .words) ≡ stateSize
   pub slots : length (s .table .slots) ≡ slotCount
   pub said : heldSheet h ≡ s
 
-pub holding-says : (h : Held) (s : Sheet) → length (h .words) ≡ stateSize → length (s .table .slots) ≡ slotCount → Says (holding s h) s
+holding-says : (h : Held) (s : Sheet) → length (h .words) ≡ stateSize → length (s .table .slots) ≡ slotCount → Says (holding s h) s
 holding-says h s long slots =
-    record { long = sheet-length s (h .words) long ∙ long; slots = slots; said = sheet-back s (h .words) long slots }
+    record { long = sheet-length s (h .words) ∙ long; slots = slots; said = sheet-back s (h .words) long slots }
 
 -- ---- the rows
 then-words : (g : Given) (rows : List Row) {words : List (List ℕ)} → words ≡ wordsOf rows → rowThen g words ≡ wordsOf (andThen g rows)
@@ -101,7 +123,7 @@ unfolding rowThen andThen
 then-words Nothing rows e = e
 then-words (Line row) rows e = ap (λ (ws : List (List ℕ)). rowWords (Line row) ∷ ws) e
 
-pub part-rows : (calls : ℕ) (h : Held) (s : Sheet) (part : List ℕ) → Says h s
+part-rows : (calls : ℕ) (h : Held) (s : Sheet) (part : List ℕ) → Says h s
     → (partHeld calls h part .rows ≡ wordsOf (partFed calls s part .rows)) × Says (partHeld calls h part .held) (partFed calls s part .sheet)
 unfolding partHeld partFed
 part-rows zero h s part w = (refl, w)
@@ -113,10 +135,15 @@ part-rows (suc calls) h s part w =
       subst (λ (f : Fed). Says (partHeld calls (holding (f .sheet) h) (drop (f .read) part) .held) (partFed calls (fed s part .sheet) (drop (fed s part .read) part) .sheet)) (sym same) (rest .1),
     )
 
-pub rows-held : (parts : List (List ℕ)) (h : Held) (s : Sheet) → Says h s → rowsHeld h parts ≡ wordsOf (rowsOfParts s parts)
+rows-held : (parts : List (List ℕ)) (h : Held) (s : Sheet) → Says h s → rowsHeld h parts ≡ wordsOf (rowsOfParts s parts)
 unfolding rowsHeld rowsOfParts
 rows-held [] h s w = rw (w .said) (then-words (finished s .given) [] refl)
 rows-held (part ∷ parts) h s w =
     let first = part-rows (length part) h s part w in
     let later = rows-held parts (partHeld (length part) h part .held) (partFed (length part) s part .sheet) (first .1) in
     rw (first .0, later) (sym (map-append (λ (r : Row). rowWords (Line r)) (partFed (length part) s part .rows) (rowsOfParts (partFed (length part) s part .sheet) parts)))
+
+pub however-cut-words : (h : Held) → length (h .words) ≡ stateSize → (parts : List (List ℕ)) → length (linesOf (flatten parts)) < 2 ^ 64
+    → rowsHeld (begun h) parts ≡ wordsOf (sheet (flatten parts))
+however-cut-words h long parts few =
+    rows-held parts (begun h) startSheet (holding-says h startSheet long (unfold startSheet in refl)) ∙ ap wordsOf (however-cut parts few)

@@ -20,7 +20,7 @@ abbrev pub number : List ℤ → ℕ → ℤ
 number l i = getD l i (pos 0)
 
 -- false is X, true is Y
-unfoldable pub tableNamed : Bool → Table
+abbrev pub tableNamed : Bool → Table
 tableNamed false = X
 tableNamed true = Y
 
@@ -40,11 +40,11 @@ settingsFrom mode x y scales shifts priority overflow underflow =
     }
 
 -- with X linear, x[0] its select
-unfoldable pub linearFrom : List ℤ → List ℤ → List ℤ → List ℤ → Bool → Bool → Bool → LutSettings
+abbrev pub linearFrom : List ℤ → List ℤ → List ℤ → List ℤ → Bool → Bool → Bool → LutSettings
 linearFrom x y scales shifts priority overflow underflow = settingsFrom (Linear (number x 0)) x y scales shifts priority overflow underflow
 
 -- with X exponential, x[0] its offset
-unfoldable pub exponentialFrom : List ℤ → List ℤ → List ℤ → List ℤ → Bool → Bool → Bool → LutSettings
+abbrev pub exponentialFrom : List ℤ → List ℤ → List ℤ → List ℤ → Bool → Bool → Bool → LutSettings
 exponentialFrom x y scales shifts priority overflow underflow = settingsFrom (Exponential (number x 0)) x y scales shifts priority overflow underflow
 
 -- X only, Y only, underflow, overflow, priority

@@ -1,7 +1,9 @@
 -- The ready-made settings as arrays of words (include/olsketina.h). Refused: every array stays. Assumes nothing.
-use Prim.Native.Nat.{ℕ, zero, suc}
+use Prim.Native.Nat.{ℕ}
 use mathlib.Core.Path.{_≡_}
+use mathlib.Core.Bool.{cond}
 use mathlib.Core.List.{List, [], _∷_}
+use lib.Dec.{eqb}
 use lib.IntN.{ℤ}
 use Rattle.lut.specs.declared.XMode.{XMode}
 use Rattle.lut.specs.declared.XMode.the-variants.{Linear, Exponential}
@@ -18,9 +20,7 @@ use Rattle.camera.specs.declared.Ready.the-variants.{Setting, Refused as NotGiv
 
 -- a priority bit: 0 names X, 1 names Y, any other word leaves it unnamed
 unfoldable pub choiceNamed : ℕ → Choice
-choiceNamed zero = Named X
-choiceNamed (suc zero) = Named Y
-choiceNamed (suc (suc n)) = Unnamed
+choiceNamed w = cond (eqb w 0) (Named X) (cond (eqb w 1) (Named Y) Unnamed)
 
 -- ---- settings as words
 
@@ -29,7 +29,7 @@ unfoldable pub modeNumber : XMode → ℤ
 modeNumber (Linear select) = select
 modeNumber (Exponential offset) = offset
 
-unfoldable pub tableWord : Table → ℕ
+abbrev pub tableWord : Table → ℕ
 tableWord X = 0
 tableWord Y = 1
 

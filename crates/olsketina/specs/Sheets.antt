@@ -2,24 +2,26 @@
 use Prim.Native.Nat.{ℕ, _+_, _*_, _/_, _%_}
 use mathlib.Core.Path.{_≡_}
 use mathlib.Core.List.{List, [], _∷_}
-use lib.ListN.{set}
 use Rattle.refusal.specs.Codes.{answerCode, faultIndex}
 use Rattle.script.specs.declared.Sheet.{Sheet}
 use Rattle.script.specs.declared.Given.{Given}
 use Rattle.script.specs.declared.Given.the-variants.{Nothing, Line}
-use Rattle.olsketina.specs.Words.{word}
-use Rattle.olsketina.specs.Sizes.{stateTable}
+use Rattle.olsketina.specs.Words.{word, overwritten}
+use Rattle.olsketina.specs.Sizes.{frameWord, stateTable}
 use Rattle.olsketina.specs.Tables.{says, tableAt, flagWord, withTable}
 
 -- lines ended (low word, high word), length of the line in progress, whether a frame was accepted, then the table's words; beside it the line's first bytes
 unfoldable pub sheetFrom : List ℕ → List ℕ → Sheet
 sheetFrom l text =
-    record { lines = record { count = word l 0 + 4294967296 * word l 1; line = record { length = word l 2; bytes = text } }; framed = says (word l 3); table = tableAt l stateTable }
+    record { lines = record { count = word l 0 + 4294967296 * word l 1; line = record { length = word l 2; bytes = text } }; framed = says (word l frameWord); table = tableAt l stateTable }
 
--- its first four words written; a fourth one that says the same already stays
-unfoldable pub withProgress : Sheet → List ℕ → List ℕ
-withProgress s l =
-    set (set (set (set l 0 (s .lines .count % 4294967296)) 1 (s .lines .count / 4294967296)) 2 (s .lines .line .length)) 3 (flagWord (s .framed) (word l 3))
+-- its word i of the first four, over an old one: a fourth one that says the same already stays
+abbrev pub progressWord : Sheet → ℕ → ℕ → ℕ
+progressWord s i old = word (s .lines .count % 4294967296 ∷ s .lines .count / 4294967296 ∷ s .lines .line .length ∷ flagWord (s .framed) old ∷ []) i
+
+-- those four words written
+abbrev pub withProgress : Sheet → List ℕ → List ℕ
+withProgress s l = overwritten 0 (progressWord s) 0 stateTable l
 
 -- a state's words written, without its text
 unfoldable pub withSheet : Sheet → List ℕ → List ℕ

@@ -19,7 +19,10 @@ slotCount = 16
 abbrev pub tableSize : ℕ
 tableSize = layoutSize + slotSize * slotCount
 
--- words of a sheet's state before those of its table, and all
+-- a sheet's state: its word that says whether a frame was accepted, its words before those of its table, and all
+abbrev pub frameWord : ℕ
+frameWord = 3
+
 abbrev pub stateTable : ℕ
 stateTable = 4
 

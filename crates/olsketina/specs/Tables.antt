@@ -1,17 +1,17 @@
 -- The region table as an array of words: the layout's, then for each slot placed, first column, first row, columns, rows. Any contents are a
 -- table. Assumes nothing.
 use Prim.Native.Nat.{ℕ, _+_, _-_, _*_, _/_, _%_, _≤_, _<_}
-use mathlib.Core.Bool.{Bool, true, false, not, _&&_, cond}
+use mathlib.Core.Bool.{Bool, true, false, not, cond}
 use mathlib.Core.List.{List, [], _∷_}
 use lib.ListN.{getD}
-use lib.Dec.{leb, ltb, eqb}
-use Rattle.elements.specs.Lists.{remade, tabulate}
+use lib.Dec.{ltb, eqb}
+use Rattle.elements.specs.Lists.{tabulate}
 use Rattle.layout.specs.declared.CubeLayout.{CubeLayout}
 use Rattle.regions.specs.declared.Region.{Region}
 use Rattle.regions.specs.declared.RegionTable.{RegionTable}
 use Rattle.regions.specs.Slots.{rectangle}
 use Rattle.olsketina.specs.Sizes.{layoutSize, slotSize, slotCount, tableSize}
-use Rattle.olsketina.specs.Words.{word, layoutAt}
+use Rattle.olsketina.specs.Words.{word, overwritten, layoutAt}
 
 -- ---- the table that words say
 
@@ -57,8 +57,8 @@ tableWord t i old =
     (word (regionWords (getD (t .slots) ((i - layoutSize) / slotSize) noRegion) old) ((i - layoutSize) % slotSize))
 
 -- a table's words written from `at` on, every other word as it was
-unfoldable pub withTable : RegionTable → ℕ → List ℕ → List ℕ
-withTable t at l = remade (λ (p old : ℕ). cond (leb at p && ltb p (at + tableSize)) (tableWord t (p - at) old) old) l
+abbrev pub withTable : RegionTable → ℕ → List ℕ → List ℕ
+withTable t at l = overwritten 0 (tableWord t) at tableSize l
 
 -- p is none of n words from `at` on
 abbrev pub Outside : ℕ → ℕ → ℕ → Type 0

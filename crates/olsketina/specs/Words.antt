@@ -1,7 +1,7 @@
 -- Settings as arrays of words (include/olsketina.h). Assumes nothing.
-use Prim.Native.Nat.{ℕ, _+_}
+use Prim.Native.Nat.{ℕ, zero, suc, _+_}
 use mathlib.Core.List.{List}
-use lib.ListN.{getD}
+use lib.ListN.{getD, set}
 use Rattle.layout.specs.declared.CubeLayout.{CubeLayout}
 use Rattle.layout.specs.declared.ElementBox.{ElementBox}
 use Rattle.layout.specs.Geometry.{layoutOf}
@@ -11,6 +11,11 @@ use Rattle.pixels.specs.declared.PixelSetting.{PixelSetting}
 -- word i
 abbrev pub word : List ℕ → ℕ → ℕ
 word l i = getD l i 0
+
+-- n entries from `at` on written, entry i of those made of i and of what stood there; every other stays, and nothing past the end is written
+unfoldable pub overwritten : {A : Type 0} → A → (ℕ → A → A) → ℕ → ℕ → List A → List A
+overwritten d make at zero l = l
+overwritten d make at (suc n) l = set (overwritten d make at n l) (at + n) (make n (getD l (at + n) d))
 
 -- width, height, channels, precision, line stride, surface stride, start, from word `at` on
 abbrev pub layoutAt : List ℕ → ℕ → CubeLayout

@@ -17,14 +17,10 @@ pub(crate) fn give_quantity(quantity: Quantity, value: &mut u64, fault: &mut usi
     ensures { λ r. ⌜ Valued quantity (now (value .entry)) r (now (value .exit)) (now (fault .exit)) ⌝ }
 {
     match quantity {
+        Quantity::Refused(refusal, at) => give(Answer::Refused(refusal, at), fault),
         Quantity::Is(n) => {
             *value = n;
-            *fault = 0;
-            0
-        }
-        Quantity::Refused(refusal, at) => {
-            *fault = at;
-            refusal::code(refusal)
+            give(Answer::Accepted, fault)
         }
     }
 }
@@ -34,14 +30,10 @@ pub(crate) fn give_converted(converted: Quantized, value: &mut i16, fault: &mut 
     ensures { λ r. ⌜ Converted converted (now (value .entry)) r (now (value .exit)) (now (fault .exit)) ⌝ }
 {
     match converted {
+        Quantized::Refused(refusal, at) => give(Answer::Refused(refusal, at), fault),
         Quantized::Value(n) => {
             *value = n;
-            *fault = 0;
-            0
-        }
-        Quantized::Refused(refusal, at) => {
-            *fault = at;
-            refusal::code(refusal)
+            give(Answer::Accepted, fault)
         }
     }
 }

@@ -50,8 +50,7 @@ pub extern "C" fn olsketina_regions_place(
     };
     let o = regions_calls::place(before, slot, rectangle);
     let answer = o.answer;
-    let after = o.table;
-    tables::leave_table(table, answer, after);
+    tables::leave_table(table, answer, o.table);
     answers::give(answer, fault)
 }
 

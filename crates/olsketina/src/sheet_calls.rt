@@ -22,9 +22,7 @@ pub extern "C" fn olsketina_script_begin(
     ensures line { λ _. ⌜ now (text .exit) ≡ startSheet .lines .line .bytes ⌝ }
 {
     let sheet = script_calls::begin();
-    let lines = sheet.lines;
-    let line = lines.line;
-    let empty = line.bytes;
+    let empty = sheet.lines.line.bytes;
     *text = empty;
     sheet_words::write_sheet(state, sheet);
 }
@@ -41,9 +39,7 @@ fn write_fed(
     ensures ended { λ _. ⌜ now (row .exit) ≡ rowWords (given .given) ⌝ }
 {
     let sheet = given.sheet;
-    let lines = sheet.lines;
-    let line = lines.line;
-    let bytes = line.bytes;
+    let bytes = sheet.lines.line.bytes;
     let ended = given.given;
     *text = bytes;
     *row = sheet_words::row_words(ended);

@@ -24,20 +24,16 @@ pub(crate) fn sheet_of(words: &[u32; STATE_WORDS], text: &[u8; TEXT_BYTES]) -> S
     ensures { λ r. ⌜ r ≡ sheetFrom (now (words .entry)) (now (text .entry)) ⌝ }
 {
     let bytes = *text;
-    let table = tables::table_at(words, STATE_TABLE);
-    let count = joined(words[0], words[1]);
-    let line = Line {
-        length: words[2],
-        bytes: bytes,
-    };
-    let lines = Lines {
-        count: count,
-        line: line,
-    };
     Sheet {
-        lines: lines,
+        lines: Lines {
+            count: joined(words[0], words[1]),
+            line: Line {
+                length: words[2],
+                bytes: bytes,
+            },
+        },
         framed: words[3] != 0,
-        table: table,
+        table: tables::table_at(words, STATE_TABLE),
     }
 }
 
@@ -45,15 +41,12 @@ pub(crate) fn sheet_of(words: &[u32; STATE_WORDS], text: &[u8; TEXT_BYTES]) -> S
 pub(crate) fn write_sheet(words: &mut [u32; STATE_WORDS], sheet: Sheet)
     ensures { λ _. ⌜ now (words .exit) ≡ withSheet sheet (now (words .entry)) ⌝ }
 {
-    let lines = sheet.lines;
-    let line = lines.line;
-    let table = sheet.table;
     let old = words[3];
-    words[0] = (lines.count % 4294967296) as u32;
-    words[1] = (lines.count / 4294967296) as u32;
-    words[2] = line.length;
+    words[0] = (sheet.lines.count % 4294967296) as u32;
+    words[1] = (sheet.lines.count / 4294967296) as u32;
+    words[2] = sheet.lines.line.length;
     words[3] = tables::flag_word(sheet.framed, old);
-    tables::write_table(words, STATE_TABLE, table);
+    tables::write_table(words, STATE_TABLE, sheet.table);
 }
 
 // The row of a line that ended: 1, its number, answer, index at fault and value; all 0 where none ended.

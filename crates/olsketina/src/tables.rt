@@ -37,15 +37,14 @@ fn slots_at(words: &[u32], at: usize) -> [Region; SLOTS]
     requires { ⌜ at + slotSize * slotCount ≤ length (now words) ⌝ }
     ensures { λ r. ⌜ r ≡ slotsAt (now (words .entry)) at ⌝ }
 {
-    let nowhere = Rectangle {
-        column: 0,
-        row: 0,
-        columns: 0,
-        rows: 0,
-    };
     let none = Region {
         placed: false,
-        rectangle: nowhere,
+        rectangle: Rectangle {
+            column: 0,
+            row: 0,
+            columns: 0,
+            rows: 0,
+        },
     };
     let mut slots = [none; SLOTS];
     let mut i: usize = 0;
@@ -61,11 +60,9 @@ pub(crate) fn table_at(words: &[u32], at: usize) -> RegionTable
     requires { ⌜ at + tableSize ≤ length (now words) ⌝ }
     ensures { λ r. ⌜ r ≡ tableAt (now (words .entry)) at ⌝ }
 {
-    let layout = words::layout_at(words, at);
-    let slots = slots_at(words, at + LAYOUT_WORDS);
     RegionTable {
-        layout: layout,
-        slots: slots,
+        layout: words::layout_at(words, at),
+        slots: slots_at(words, at + LAYOUT_WORDS),
     }
 }
 
@@ -118,11 +115,8 @@ fn table_word(table: RegionTable, i: usize, old: u32) -> u32
         return first[i];
     }
     let slots = table.slots;
-    let slot = (i - LAYOUT_WORDS) / SLOT_WORDS;
-    let region = slots[slot];
-    let later = region_words(region, old);
-    let j = (i - LAYOUT_WORDS) % SLOT_WORDS;
-    later[j]
+    let later = region_words(slots[(i - LAYOUT_WORDS) / SLOT_WORDS], old);
+    later[(i - LAYOUT_WORDS) % SLOT_WORDS]
 }
 
 // Writes a table's words from `at` on.

@@ -51,13 +51,7 @@ pub extern "C" fn olsketina_weights_position(
 ) -> u32
     ensures { λ r. ⌜ Valued (positionQuantity (weightsFrom (now (weights .entry))) kernel channel row column) (now (value .entry)) r (now (value .exit)) (now (fault .exit)) ⌝ }
 {
-    let position = weights_calls::position(
-        words::weights_of(weights),
-        kernel,
-        channel,
-        row,
-        column,
-    );
+    let position = weights_calls::position(words::weights_of(weights), kernel, channel, row, column);
     answers::give_quantity(position, value, fault)
 }
 

@@ -5,22 +5,12 @@ use borrow.Author.Needs.{needs, sfits-of}
 use Rattle.olsketina.proofs.answers.give_converted.Statement.{statement}
 use Rattle.olsketina.proofs.answers.give_converted.Tie as tie
 
-enum-known-converted : tie.Need-enum-known-converted
-enum-known-converted c = search needs
-
-enum-known-converted-2 : tie.Need-enum-known-converted-2
-enum-known-converted-2 c = search needs
-
-code-requires : tie.Need-code-requires
-code-requires c κs = search needs
-
 returns : tie.Need-returns
-returns c = rw (c .before .converted .given .1) (record { answered = record { coded = refl; indexed = refl }; valued = toZ-ofZ (sfits-of (c .known-told .given .0 .1)) })
+returns c = rw (c .before .before .before .converted .given .1) (record { answered = c .give .ensures; valued = refl })
 
 returns-2 : tie.Need-returns-2
-returns-2 c = rw (c .before .before .converted2 .given .1) (record { answered = record { coded = c .code .ensures; indexed = refl }; valued = refl })
+returns-2 c = rw (c .before .before .before .converted2 .given .1) (record { answered = c .give2 .ensures; valued = toZ-ofZ (sfits-of (c .before .before .known-told2 .given .0 .1)) })
 
 pub give-converted-spec : {M : Type 1} → statement M
 give-converted-spec =
-    tie.close
-    (tie.spec enum-known-converted enum-known-converted-2 code-requires returns returns-2)
+    tie.close (tie.spec (search needs) (search needs) (search needs) (search needs) returns returns-2)

@@ -6,12 +6,6 @@ use Rattle.olsketina.specs.Ready.{modeNumber}
 use Rattle.olsketina.proofs.lut_words.mode_number.Statement.{statement}
 use Rattle.olsketina.proofs.lut_words.mode_number.Tie as tie
 
-enum-known-mode : tie.Need-enum-known-mode
-enum-known-mode c = search needs
-
-enum-known-mode-2 : tie.Need-enum-known-mode-2
-enum-known-mode-2 c = search needs
-
 returns : tie.Need-returns
 unfolding modeNumber
 returns c = toZ-ofZ (sfits-of (c .known-told .given .0 .1)) ∙ sym (ap modeNumber (c .before .mode .given .1))
@@ -21,4 +15,4 @@ unfolding modeNumber
 returns-2 c = toZ-ofZ (sfits-of (c .known-told2 .given .0 .1)) ∙ sym (ap modeNumber (c .before .mode2 .given .1))
 
 pub mode-number-spec : {M : Type 1} → statement M
-mode-number-spec = tie.close (tie.spec enum-known-mode enum-known-mode-2 returns returns-2)
+mode-number-spec = tie.close (tie.spec (search needs) (search needs) returns returns-2)

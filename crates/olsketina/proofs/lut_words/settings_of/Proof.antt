@@ -5,42 +5,6 @@ use Rattle.olsketina.specs.Lookups.{settingsFrom}
 use Rattle.olsketina.proofs.lut_words.settings_of.Statement.{statement}
 use Rattle.olsketina.proofs.lut_words.settings_of.Tie as tie
 
-element-copy-out-t13 : tie.Need-element-copy-out-t13
-element-copy-out-t13 c = search needs
-
-element-copy-out-t16 : tie.Need-element-copy-out-t16
-element-copy-out-t16 c = search needs
-
-slope-at-requires : tie.Need-slope-at-requires
-slope-at-requires c κs = search needs
-
-slope-at-requires-2 : tie.Need-slope-at-requires-2
-slope-at-requires-2 c κs = search needs
-
-element-copy-out-t13-2 : tie.Need-element-copy-out-t13-2
-element-copy-out-t13-2 c = search needs
-
-element-copy-out-t16-2 : tie.Need-element-copy-out-t16-2
-element-copy-out-t16-2 c = search needs
-
-element-copy-out-t25 : tie.Need-element-copy-out-t25
-element-copy-out-t25 c = search needs
-
-slope-at-requires-3 : tie.Need-slope-at-requires-3
-slope-at-requires-3 c κs = search needs
-
-slope-at-requires-4 : tie.Need-slope-at-requires-4
-slope-at-requires-4 c κs = search needs
-
-table-named-requires : tie.Need-table-named-requires
-table-named-requires c κs = search needs
-
-table-named-requires-2 : tie.Need-table-named-requires-2
-table-named-requires-2 c κs = search needs
-
-table-named-requires-3 : tie.Need-table-named-requires-3
-table-named-requires-3 c κs = search needs
-
 returns : tie.Need-returns
 unfolding settingsFrom
 returns c =
@@ -67,16 +31,16 @@ pub settings-of-spec : {M : Type 1} → statement M
 settings-of-spec =
     tie.close
     (tie.spec
-    element-copy-out-t13
-    element-copy-out-t16
-    slope-at-requires
-    slope-at-requires-2
-    element-copy-out-t13-2
-    element-copy-out-t16-2
-    element-copy-out-t25
-    slope-at-requires-3
-    slope-at-requires-4
-    table-named-requires
-    table-named-requires-2
-    table-named-requires-3
+    (search needs)
+    (search needs)
+    (search needs)
+    (search needs)
+    (search needs)
+    (search needs)
+    (search needs)
+    (search needs)
+    (search needs)
+    (search needs)
+    (search needs)
+    (search needs)
     returns)

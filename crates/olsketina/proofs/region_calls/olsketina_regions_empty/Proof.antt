@@ -4,18 +4,9 @@ use borrow.Author.Needs.{needs}
 use Rattle.olsketina.proofs.region_calls.olsketina_regions_empty.Statement.{statement}
 use Rattle.olsketina.proofs.region_calls.olsketina_regions_empty.Tie as tie
 
-layout-at-requires : tie.Need-layout-at-requires
-layout-at-requires c κs = search needs
-
-empty-requires : tie.Need-empty-requires
-empty-requires c κs = search needs
-
-write-table-requires : tie.Need-write-table-requires
-write-table-requires c κs = search needs
-
 returns : tie.Need-returns
 returns c = c .write-table .ensures ∙ rw (c .before .before .empty .ensures, c .before .before .before .layout-at .ensures)
 
 pub olsketina-regions-empty-spec : {M : Type 1} → statement M
 olsketina-regions-empty-spec =
-    tie.close (tie.spec layout-at-requires empty-requires write-table-requires returns)
+    tie.close (tie.spec (search needs) (search needs) (search needs) returns)

@@ -10,12 +10,6 @@ use borrow.Author.Needs.{needs}
 use Rattle.olsketina.proofs.sheet_calls.olsketina_script_row_text.Statement.{statement}
 use Rattle.olsketina.proofs.sheet_calls.olsketina_script_row_text.Tie as tie
 
-fields-text-requires : tie.Need-fields-text-requires
-fields-text-requires c κs = search needs
-
-write-text-requires : tie.Need-write-text-requires
-write-text-requires c κs = search needs
-
 returns : tie.Need-returns
 returns c = let f = c .before .before in
     let a = f .before .args in
@@ -24,4 +18,4 @@ returns c = let f = c .before .before in
 
 pub olsketina-script-row-text-spec : {M : Type 1} → statement M
 olsketina-script-row-text-spec =
-    tie.close (tie.spec fields-text-requires write-text-requires returns)
+    tie.close (tie.spec (search needs) (search needs) returns)

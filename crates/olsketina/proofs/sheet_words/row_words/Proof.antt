@@ -5,21 +5,6 @@ use borrow.Author.Needs.{needs}
 use Rattle.olsketina.proofs.sheet_words.row_words.Statement.{statement}
 use Rattle.olsketina.proofs.sheet_words.row_words.Tie as tie
 
-enum-told : tie.Need-enum-told
-enum-told c = search needs
-
-enum-known-given : tie.Need-enum-known-given
-enum-known-given c = search needs
-
-answer-code-requires : tie.Need-answer-code-requires
-answer-code-requires c κs = search needs
-
-cast-t6 : tie.Need-cast-t6
-cast-t6 c = search needs
-
-fault-index-requires : tie.Need-fault-index-requires
-fault-index-requires c κs = search needs
-
 returns : tie.Need-returns
 unfolding rowWords
 returns c = sym (ap rowWords (c .enum-told .given .1))
@@ -32,10 +17,10 @@ pub row-words-spec : {M : Type 1} → statement M
 row-words-spec =
     tie.close
     (tie.spec
-    enum-told
-    enum-known-given
-    answer-code-requires
-    cast-t6
-    fault-index-requires
+    (search needs)
+    (search needs)
+    (search needs)
+    (search needs)
+    (search needs)
     returns
     returns-2)
