@@ -48,10 +48,10 @@ pub place-back : (l : List ℕ) (n : ℕ) (g : Rectangle) → length l ≡ table
 place-back l n g long = place.place-back l n g long
 
 -- a placing changes the words of its slot and no other
-pub place-alone : (l : List ℕ) (n : ℕ) (g : Rectangle) → length l ≡ tableSize → (p : ℕ) → Outside (layoutSize + slotSize * n) slotSize p
+pub place-alone : (l : List ℕ) (n : ℕ) (g : Rectangle) (p : ℕ) → Outside (layoutSize + slotSize * n) slotSize p
     → let t = tableAt l 0 in
     word (leaves (placeAnswer t n g) (withTable (placeTable t n g) 0 l) l) p ≡ word l p
-place-alone l n g long p out = place.place-alone l n g p out
+place-alone l n g p out = place.place-alone l n g p out
 
 -- ---- lookups
 
@@ -76,15 +76,15 @@ pub empty-part : (l text : List ℕ) → word l 0 < 2 ^ 32
 empty-part l text h = feed.empty-part l text h
 
 -- a record that is refused, as its row says, leaves the frame word and the table's words
-pub refused-record : (l text part : List ℕ) → length l ≡ stateSize
+pub refused-record : (l text part : List ℕ)
     → let f = fed (sheetFrom l text) part in
     HasRefusal (f .given) → (p : ℕ) → frameWord ≤ p → word (withSheet (f .sheet) l) p ≡ word l p
-refused-record l text part long r p h = feed.refused-record l text part r p h
+refused-record l text part r p h = feed.refused-record l text part r p h
 
-pub refused-last : (l text : List ℕ) → length l ≡ stateSize
+pub refused-last : (l text : List ℕ)
     → let f = finished (sheetFrom l text) in
     HasRefusal (f .given) → (p : ℕ) → frameWord ≤ p → word (withSheet (f .sheet) l) p ≡ word l p
-refused-last l text long r p h = feed.refused-last l text r p h
+refused-last l text r p h = feed.refused-last l text r p h
 
 -- however the input is cut into parts, the calls over words, begun over any, give the rows of the whole input, if it has fewer than 2^64 lines
 pub however-cut-words : (h : Held) → length (h .words) ≡ stateSize → (parts : List (List ℕ)) → length (linesOf (flatten parts)) < 2 ^ 64

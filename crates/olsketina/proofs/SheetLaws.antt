@@ -19,7 +19,8 @@ use Rattle.olsketina.proofs.WordLaws.{says-flag, flagWord-says}
 use Rattle.olsketina.proofs.TableLaws.{decoded, word-same, encoded}
 
 module _ (s : Sheet) (l : List ℕ) where
-  pub progress-sets : withProgress s l ≡ set (set (set (set l 0 (s .lines .count % 4294967296)) 1 (s .lines .count / 4294967296)) 2 (s .lines .line .length)) frameWord (flagWord (s .framed) (word l frameWord))
+  pub progress-sets : let counted = set (set l 0 (s .lines .count % 4294967296)) 1 (s .lines .count / 4294967296) in
+      withProgress s l ≡ set (set counted 2 (s .lines .line .length)) frameWord (flagWord (s .framed) (word l frameWord))
   progress-sets = unfold overwritten in refl
 
   progress-length : length (withProgress s l) ≡ length l

@@ -12,7 +12,8 @@ use Rattle.pixels.specs.declared.PixelSetting.{PixelSetting}
 abbrev pub word : List ℕ → ℕ → ℕ
 word l i = getD l i 0
 
--- n entries from `at` on written, entry i of those made of i and of what stood there; every other stays, and nothing past the end is written
+-- n entries from `at` on written, entry i of those made of i and of what stood there (d past the end); every other entry stays, and the list its
+-- length
 unfoldable pub overwritten : {A : Type 0} → A → (ℕ → A → A) → ℕ → ℕ → List A → List A
 overwritten d make at zero l = l
 overwritten d make at (suc n) l = set (overwritten d make at n l) (at + n) (make n (getD l (at + n) d))

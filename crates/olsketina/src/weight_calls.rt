@@ -51,7 +51,8 @@ pub extern "C" fn olsketina_weights_position(
 ) -> u32
     ensures { λ r. ⌜ Valued (positionQuantity (weightsFrom (now (weights .entry))) kernel channel row column) (now (value .entry)) r (now (value .exit)) (now (fault .exit)) ⌝ }
 {
-    let position = weights_calls::position(words::weights_of(weights), kernel, channel, row, column);
+    let layout = words::weights_of(weights);
+    let position = weights_calls::position(layout, kernel, channel, row, column);
     answers::give_quantity(position, value, fault)
 }
 

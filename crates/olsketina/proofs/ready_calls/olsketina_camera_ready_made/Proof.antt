@@ -6,8 +6,9 @@ use Rattle.olsketina.proofs.ready_calls.olsketina_camera_ready_made.Tie
 
 returns : tie.Need-returns
 returns c = let p = c .before .before .before .before .before .before .before in
-    let s = p .before .before .before .before in
-    let e = simp (toZ-ofZ (s .fits .select), p .before .before .before .choice-named .ensures, p .before .before .choice-named2 .ensures, p .before .choice-named3 .ensures) at (p .ready-made .ensures) in
+    let first = p .before .before .before in
+    let select = toZ-ofZ (first .before .fits .select) in
+    let e = simp (select, first .choice-named .ensures, p .before .before .choice-named2 .ensures, p .before .choice-named3 .ensures) at (p .ready-made .ensures) in
     rw (← e) (c .write-ready .ensures)
 
 pub olsketina-camera-ready-made-spec : {M : Type 1} → statement M
