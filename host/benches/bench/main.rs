@@ -199,7 +199,7 @@ fn edit(name: &str, words: [u32; 4]) -> Row {
     let corner = (80 + 24) * layout.line + 32 * (96 + 40);
     let surfaces = (corner as usize..bytes.len()).step_by(layout.surface as usize);
     let lines = surfaces.flat_map(|at| (at..).step_by(layout.line as usize).take(64).map(|at| at..at + 32 * 64));
-    let cells = draw::box_count(part);
+    let cells = draw::product(&[layout.channels, 64, 64]);
     let calls = [Table::edit, loops::edit]
         .map(|call| move |from: &[i16], to: &mut [u8]| call(black_box(&table), SLOT, black_box(part), from, to).map(|()| [0; 5]));
     measure(name, 1001, cells, &elements[..cells], &vec![LEFT; bytes.len()], &lines.collect::<Vec<_>>(), calls)
