@@ -16,7 +16,7 @@ use Rattle.refusal.specs.Checks.{require, inOrder}
 use Rattle.refusal.proofs.CheckLaws.{inOrder-nil, inOrder-next}
 use Rattle.lut.specs.declared.Counters.{Counters}
 use Rattle.lut.specs.Numbers.{between, scaled}
-use Rattle.lut.specs.Rules.{modeValid, sameZ, endValid, shiftValid, counterSum, lutChecks}
+use Rattle.lut.specs.Rules.{modeValid, sameZ, endValid, shiftValid, counterSum, tableChecks, lutChecks}
 use Rattle.lut.specs.Calls.{runAnswer}
 use Rattle.camera.specs.declared.Choice.{Choice}
 use Rattle.camera.specs.Curve.{curveX, curveY, xTable, yTable}
@@ -48,7 +48,7 @@ module _ (s : ℕ) (low : 2 ≤ s) (high : s ≤ 22) (priority overflow underflo
   pub accepted-but : (samples : List ℤ) (outputs : ℕ) (c : Counters)
       → runAnswer (readySettings (pos s) priority overflow underflow) xTable yTable samples outputs c
       ≡ inOrder (require OutputLength (eqb outputs (length samples)) ∷ require CounterLimit (leb (counterSum c + length samples) 4294967295) ∷ [])
-  unfolding runAnswer lutChecks readySettings flat endValid shiftValid between
+  unfolding runAnswer tableChecks lutChecks readySettings flat endValid shiftValid between
   accepted-but samples outputs c =
       inOrder-next 0 TableLength _ tables-valid
       ∙ inOrder-next 0 XSelect _ mode-valid

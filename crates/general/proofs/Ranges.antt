@@ -3,7 +3,7 @@
 --     Within                                       z lies in -n..n
 --     within-le                                    a wider range
 --     within-add, within-neg, within-take          sum, negation, difference
---     within-times                                 product (saturation: SaturateLaws.antt)
+--     within-times                                 product
 --     within-shr                                   shift down
 --     within-between                               between two numbers that are within
 --     fits-within, within-fits                     the range of a signed type, and back

@@ -1,13 +1,12 @@
 -- What an accepted run tells: each rule of the scope paper holds ("Two tables"). And what a run leaves, by its answer. Assumes nothing.
---     ySelect, yEnd, shifts                   the rules of 14, 15 and 16
 --     Valid, valid                            the rules; an accepted run meets them
 --     outputs-left .. counters-kept           outputs and counters of an accepted and of a refused run
 use Prim.Native.Nat.{ℕ, _+_, _≤_}
 use mathlib.Core.Path.{_≡_, refl, sym}
-use mathlib.Core.Bool.{Bool, true, _&&_}
+use mathlib.Core.Bool.{true, _&&_}
 use mathlib.Core.List.{List, map}
 use lib.Dec.{leb, eqb}
-use lib.IntN.{ℤ, pos, negsuc, _+ℤ_}
+use lib.IntN.{ℤ}
 use lib.ListN.{length}
 use borrow.Author.Tests.{leb-true, eqb-true}
 use Rattle.general.proofs.TestLaws.{and-left, and-right}
@@ -18,22 +17,11 @@ use Rattle.refusal.specs.Checks.{inOrder}
 use Rattle.refusal.proofs.CheckLaws.{Held, inOrder-all, requireAt-held, leaves-done, leaves-before}
 use Rattle.lut.specs.declared.LutSettings.{LutSettings}
 use Rattle.lut.specs.declared.Counters.{Counters}
-use Rattle.lut.specs.Rules.{modeValid, sameZ, endValid, shiftValid, counterSum, lutChecks}
+use Rattle.lut.specs.Rules.{modeValid, endValid, ySelectValid, yEndValid, shiftValid, shiftsValid, counterSum, tableChecks, lutChecks}
 use Rattle.lut.specs.Samples.{sampleAnswer, counted}
 use Rattle.lut.specs.Steps.{xValid, yValid}
 use Rattle.lut.specs.Calls.{runAnswer, runOutputs, runCounters}
-use Rattle.lut.specs.Numbers.{between, scaled}
 use Rattle.lut.proofs.SideLaws.{and-four}
-
--- the rules of 14, 15 and 16
-abbrev pub ySelect : LutSettings → Bool
-ySelect s = between (negsuc 7) (pos 23) (s .y .select)
-
-abbrev pub yEnd : LutSettings → Bool
-yEnd s = sameZ (s .y .end) (s .y .start +ℤ pos (scaled 256 (s .y .select)))
-
-abbrev pub shifts : LutSettings → Bool
-shifts s = shiftValid (s .x .below .shift) && shiftValid (s .x .above .shift) && shiftValid (s .y .below .shift) && shiftValid (s .y .above .shift)
 
 pub record Valid (s : LutSettings) (xs ys samples outputs : ℕ) (c : Counters) : Type 0 where
   pub x-long : xs ≡ 65
@@ -45,16 +33,16 @@ pub record Valid (s : LutSettings) (xs ys samples outputs : ℕ) (c : Counters) 
 
 module _ (s : LutSettings) (xs ys samples outputs : ℕ) (c : Counters) where
   pub valid : inOrder (lutChecks s xs ys samples outputs c) ≡ Accepted → Valid s xs ys samples outputs c
-  unfolding lutChecks Held xValid yValid
+  unfolding tableChecks lutChecks Held xValid yValid
   valid e =
       let h = inOrder-all (lutChecks s xs ys samples outputs c) e in
       let lengths = requireAt-held 0 TableLength (eqb xs 65 && eqb ys 257) (h .0) in
-      let shift = and-four (shiftValid (s .x .below .shift)) (shiftValid (s .x .above .shift)) (shiftValid (s .y .below .shift)) (shiftValid (s .y .above .shift)) (requireAt-held 0 Shift (shifts s) (h .1 .1 .1 .1 .1 .0)) in
+      let shift = and-four (shiftValid (s .x .below .shift)) (shiftValid (s .x .above .shift)) (shiftValid (s .y .below .shift)) (shiftValid (s .y .above .shift)) (requireAt-held 0 Shift (shiftsValid s) (h .1 .1 .1 .1 .1 .0)) in
       record {
         x-long = eqb-true xs 65 (and-left (eqb xs 65) (eqb ys 257) lengths);
         y-long = eqb-true ys 257 (and-right (eqb xs 65) (eqb ys 257) lengths);
         x-valid = rw (requireAt-held 0 XSelect (modeValid (s .x .mode)) (h .1 .0), requireAt-held 0 XEnd (endValid (s .x)) (h .1 .1 .0), shift .0, shift .1) refl;
-        y-valid = rw (requireAt-held 0 YSelect (ySelect s) (h .1 .1 .1 .0), requireAt-held 0 YEnd (yEnd s) (h .1 .1 .1 .1 .0), shift .2, shift .3) refl;
+        y-valid = rw (requireAt-held 0 YSelect (ySelectValid (s .y)) (h .1 .1 .1 .0), requireAt-held 0 YEnd (yEndValid (s .y)) (h .1 .1 .1 .1 .0), shift .2, shift .3) refl;
         long = eqb-true outputs samples (requireAt-held 0 OutputLength (eqb outputs samples) (h .1 .1 .1 .1 .1 .1 .0));
         room = leb-true (counterSum c + samples) 4294967295 (requireAt-held 0 CounterLimit (leb (counterSum c + samples) 4294967295) (h .1 .1 .1 .1 .1 .1 .1 .0));
       }

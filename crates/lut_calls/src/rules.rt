@@ -1,13 +1,12 @@
 // Which settings are valid: each rule, and the checks in their order.
 ghost use mathlib.Core.Path.{_≡_};
-ghost use mathlib.Core.Bool.{true, _&&_};
+ghost use mathlib.Core.Bool.{true};
 ghost use Prim.Native.Nat.{_+_, _≤_};
 ghost use lib.IntN.{pos, negsuc, _+ℤ_};
 ghost use lib.Dec.{leb};
 ghost use Rattle.refusal.specs.Checks.{inOrder};
 ghost use Rattle.lut.specs.Numbers.{between, scaled};
-ghost use Rattle.lut.specs.Rules.{modeValid, sameZ, endValid, shiftValid, counterSum, lutChecks};
-ghost use Rattle.lut.specs.Steps.{tableChecks};
+ghost use Rattle.lut.specs.Rules.{ySelectValid, yEndValid, shiftsValid, modeValid, sameZ, endValid, counterSum, lutChecks, tableChecks};
 use crate::numbers;
 use lut::Counters;
 use lut::LutSettings;
@@ -68,7 +67,7 @@ fn end_valid(s: XSettings) -> bool
 
 // Whether the select of the Y table is valid.
 fn select_valid(s: YSettings) -> bool
-    ensures { λ r. ⌜ r ≡ between (negsuc 7) (pos 23) (s .select) ⌝ }
+    ensures { λ r. ⌜ r ≡ ySelectValid s ⌝ }
 {
     let select = s.select;
     between(-8, 23, select)
@@ -76,8 +75,8 @@ fn select_valid(s: YSettings) -> bool
 
 // Whether the end of the Y table is valid.
 fn y_end_valid(s: YSettings) -> bool
-    requires { ⌜ between (negsuc 7) (pos 23) (s .select) ≡ true ⌝ }
-    ensures { λ r. ⌜ r ≡ sameZ (s .end) (s .start +ℤ pos (scaled 256 (s .select))) ⌝ }
+    requires { ⌜ ySelectValid s ≡ true ⌝ }
+    ensures { λ r. ⌜ r ≡ yEndValid s ⌝ }
 {
     let select = s.select;
     let start = s.start;
@@ -87,7 +86,7 @@ fn y_end_valid(s: YSettings) -> bool
 
 // Whether the four shifts are valid.
 fn shifts_valid(s: LutSettings) -> bool
-    ensures { λ r. ⌜ r ≡ (shiftValid (s .x .below .shift) && shiftValid (s .x .above .shift) && shiftValid (s .y .below .shift) && shiftValid (s .y .above .shift)) ⌝ }
+    ensures { λ r. ⌜ r ≡ shiftsValid s ⌝ }
 {
     let xb = s.x.below.shift;
     let xa = s.x.above.shift;

@@ -1,5 +1,5 @@
 -- The overlap test, and the search for a box of the cube, as the code makes them. The contracts of the private functions cite these; no public promise
--- rests on them. proofs/MeetLaws.antt proves that the test comes to `overlaps`, proofs/CallLaws.antt what edit, read and position make of the box. Assumes nothing.
+-- rests on them. proofs/MeetLaws.antt proves that the test comes to `overlaps`, proofs/StepLaws.antt what edit, read and position make of the box. Assumes nothing.
 use Prim.Native.Nat.{ℕ, _+_}
 use mathlib.Core.Bool.{Bool, false, _&&_}
 use lib.Dec.{leb, ltb}

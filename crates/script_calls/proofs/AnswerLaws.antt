@@ -1,5 +1,5 @@
 -- A record's answer, value and desk in terms of what the code calls: a refused record changes nothing, an accepted one does what it says. By taking the
--- definitions of specs/Rows.antt apart. Assumes nothing.
+-- definitions of script/specs/Rows.antt apart. Assumes nothing.
 --     record-refused, record-done                   any record, by its answer
 --     record-unreadable                             a line that is no record
 --     frame-refused, frame-valid                    a frame, by its extent

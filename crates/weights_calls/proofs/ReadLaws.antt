@@ -1,4 +1,4 @@
--- What reading all runs leaves: the raw weights (specs/Contents.antt). Each run is a step toward them. Assumes nothing.
+-- What reading all runs leaves: the raw weights (weights/specs/Contents.antt). Each run is a step toward them. Assumes nothing.
 --     Reading                              the walk that reads
 --     read-first, read-next, read-done     its start, a turn and its end
 use Prim.Native.Nat.{ℕ, _+_, _*_, _≤_, _<_}

@@ -1,4 +1,4 @@
--- What writing all runs leaves, and clearing the fill behind them: the packed buffer (specs/Contents.antt). Each run is a step toward it. Assumes
+-- What writing all runs leaves, and clearing the fill behind them: the packed buffer (weights/specs/Contents.antt). Each run is a step toward it. Assumes
 -- nothing.
 --     Writing                                 the walk that writes
 --     write-first, write-next, write-done     its start, a turn and its end

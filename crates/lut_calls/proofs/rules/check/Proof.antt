@@ -9,9 +9,7 @@ use Rattle.refusal.specs.declared.Answer.{Answer}
 use Rattle.refusal.specs.declared.Refusal.the-variants.{Shift, Counters as CounterLimit, OutputLength}
 use Rattle.refusal.specs.Checks.{require, inOrder}
 use Rattle.refusal.proofs.CheckLaws.{inOrder-nil, inOrder-next, inOrder-stop, inOrder-passed, inOrder-refused}
-use Rattle.lut.specs.Rules.{counterSum, lutChecks}
-use Rattle.lut.specs.Steps.{tableChecks}
-use Rattle.lut.proofs.ValidLaws.{shifts}
+use Rattle.lut.specs.Rules.{shiftsValid, counterSum, tableChecks, lutChecks}
 use Rattle.lut_calls.proofs.rules.check.Statement.{statement}
 use Rattle.lut_calls.proofs.rules.check.Tie as tie
 
@@ -24,7 +22,7 @@ abbrev from18 : tie.Start → List Answer
 from18 a = require OutputLength (eqb (a .args .outputs) (a .args .samples)) ∷ from17 a
 
 abbrev from16 : tie.Start → List Answer
-from16 a = require Shift (shifts (a .args .s)) ∷ from18 a
+from16 a = require Shift (shiftsValid (a .args .s)) ∷ from18 a
 
 abbrev tables : tie.Start → List Answer
 tables a = tableChecks (a .args .s) (a .args .xs) (a .args .ys)

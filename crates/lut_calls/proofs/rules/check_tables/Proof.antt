@@ -1,28 +1,24 @@
 -- `lut_calls::rules::check_tables` meets its contract: it makes the definition's checks in their order, and after each the rest is left. Assumes nothing.
-use Prim.Native.Nat.{_+_}
 use mathlib.Core.Path.{_≡_, sym, _∙_}
 use mathlib.Core.Bool.{true}
 use mathlib.Core.List.{List, [], _∷_}
-use lib.Dec.{leb, eqb}
 use borrow.Author.Needs.{needs}
 use borrow.Author.Tests.{eq-eqb, ne-eqb, not-true, not-false}
 use Rattle.refusal.specs.declared.Answer.{Answer}
-use Rattle.refusal.specs.declared.Refusal.the-variants.{TableLength, XSelect, XEnd, YSelect, YEnd, Shift, Counters as CounterLimit, OutputLength}
+use Rattle.refusal.specs.declared.Refusal.the-variants.{TableLength, XSelect, XEnd, YSelect, YEnd}
 use Rattle.refusal.specs.Checks.{require, inOrder}
 use Rattle.refusal.proofs.CheckLaws.{inOrder-nil, inOrder-next, inOrder-stop}
-use Rattle.lut.specs.Rules.{modeValid, endValid}
-use Rattle.lut.specs.Steps.{tableChecks}
-use Rattle.lut.proofs.ValidLaws.{ySelect, yEnd}
+use Rattle.lut.specs.Rules.{ySelectValid, yEndValid, modeValid, endValid, tableChecks}
 use Rattle.lut_calls.proofs.rules.check_tables.Statement.{statement}
 use Rattle.lut_calls.proofs.rules.check_tables.Tie as tie
 
 -- ---- the checks that are left, from each on
 
 abbrev from15 : tie.Start → List Answer
-from15 a = require YEnd (yEnd (a .args .s)) ∷ []
+from15 a = require YEnd (yEndValid (a .args .s .y)) ∷ []
 
 abbrev from14 : tie.Start → List Answer
-from14 a = require YSelect (ySelect (a .args .s)) ∷ from15 a
+from14 a = require YSelect (ySelectValid (a .args .s .y)) ∷ from15 a
 
 abbrev from13 : tie.Start → List Answer
 from13 a = require XEnd (endValid (a .args .s .x)) ∷ from14 a
@@ -38,7 +34,7 @@ all a = tableChecks (a .args .s) (a .args .xs) (a .args .ys)
 mode-held : (c : tie.Else3) → modeValid (c .before .before .before .before .before .args .s .x .mode) ≡ true
 mode-held c = sym (c .before .mode-valid .ensures) ∙ not-false _ (c .if3 .left)
 
-select-held : (c : tie.Else5) → ySelect (c .before .before .before .before .before .before .before .before .before .args .s) ≡ true
+select-held : (c : tie.Else5) → ySelectValid (c .before .before .before .before .before .before .before .before .before .args .s .y) ≡ true
 select-held c = sym (c .before .select-valid .ensures) ∙ not-false _ (c .if5 .left)
 
 to12 : (c : tie.Else2) → let a = c .before .before in inOrder (all a) ≡ inOrder (from12 a)
