@@ -6,6 +6,7 @@
 --     Casts        signed numbers as the code holds them
 --     NumberLaws   powers of two, signs, ranges, a number of a type read back
 --     SignedLaws   whole numbers from -h to h - 1, and naturals below 2 * h
+--     ListLaws     arrays as lists
 --     Toward       lists that come nearer to a goal list
 --     NestLaws     what a nest of two loops has done
 pub mod TestLaws
@@ -15,5 +16,6 @@ pub mod Ranges
 pub mod Casts
 pub mod NumberLaws
 pub mod SignedLaws
+pub mod ListLaws
 pub mod Toward
 pub mod NestLaws

@@ -3,6 +3,7 @@
 --     and-true                both halves
 --     and-both                the whole from its halves
 --     and-all                 every part of a row of tests
+--     and-four                four tests
 use mathlib.Core.Path.{_≡_, refl}
 use mathlib.Core.Bool.{Bool, true, false, _&&_}
 use mathlib.Core.List.{List, [], _∷_}
@@ -37,3 +38,10 @@ and-split a b (c ∷ rest) h = (and-left a b (h .0), (and-right a b (h .0), h .1
 pub and-all : (a : Bool) (rest : List Bool) → andRow a rest ≡ true → AllTrue a rest
 and-all a [] e = e
 and-all a (b ∷ rest) e = and-split a b rest (and-all (a && b) rest e)
+
+-- four tests that hold
+pub and-four : (a b c d : Bool) → a && b && c && d ≡ true → (a ≡ true) × (b ≡ true) × (c ≡ true) × (d ≡ true)
+and-four a b c d e =
+    let f = and-left (a && b && c) d e in
+    let g = and-left (a && b) c f in
+    (and-left a b g, and-right a b g, and-right (a && b) c f, and-right (a && b && c) d e)

@@ -1,5 +1,4 @@
 -- The code's steps come to the definitions: bytes added to a line, lines counted, parts collected. Assumes nothing.
---     length-mapped                        the length of an array
 --     byte-kept, byte-lost                 one more byte, by the length of the line
 --     added-end, added-kept, added-lost    bytes added from a byte on, by the length of the line
 --     count-next, count-again              the count after a line
@@ -10,8 +9,8 @@ use native.Mathlib.Numerals.{add-one}
 use native.Mathlib.Omega.{arith}
 use mathlib.Core.Path.{_≡_, sym, ap, _∙_}
 use mathlib.Core.Bool.{true, false}
-use mathlib.Core.List.{List, map}
-use lib.ListN.{length, take, drop, set, getD, drop-of-length-le, length-map}
+use mathlib.Core.List.{List}
+use lib.ListN.{length, take, drop, set, getD, drop-of-length-le}
 use lib.Seq.{drop-cons}
 use borrow.Author.Tests.{lt-ltb, le-ltb}
 use Rattle.lines.specs.declared.Line.{Line}
@@ -19,10 +18,6 @@ use Rattle.lines.specs.declared.Lines.{Lines}
 use Rattle.lines.specs.declared.Collected.{Collected}
 use Rattle.lines.specs.Texts.{partLength}
 use Rattle.lines.specs.Collecting.{withByte, added, nextLines, collected}
-
--- the length of an array is told of the list of its values
-pub length-mapped : {A B : Type 0} (f : A → B) (l : List A) (n : ℕ) → length (map f l) ≡ n → length l ≡ n
-length-mapped f l n e = sym (length-map l f) ∙ e
 
 -- ---- one more byte, by the length of the line
 

@@ -1,18 +1,18 @@
 -- What the checks leave of each table's settings. Assumes nothing.
 --     Sound, soundY, soundX                  a linear table's settings that are valid, for Y and for a linear X
---     wider, and-four                        a range within another; four tests that hold
+--     wider                                  a range within another
 --     yValid-parts                           the Y table's settings
 --     xValid-mode .. xValid-linear           the X table's settings, by the mode
 use Prim.Native.Nat.{ℕ}
 use native.Mathlib.Omega.{arith}
 use mathlib.Core.Path.{_≡_, refl, _∙_}
-use mathlib.Core.Bool.{Bool, true, _&&_}
+use mathlib.Core.Bool.{true}
 use lib.IntN.{ℤ, pos, negsuc, _+ℤ_}
 use lib.Signed.{leZ}
 use mir.Syntax.{w32}
 use mir.Val.{SFits}
 use Rattle.general.proofs.UpDown.{leZ-true, le-leZ}
-use Rattle.general.proofs.TestLaws.{and-left, and-right}
+use Rattle.general.proofs.TestLaws.{and-four}
 use Rattle.lut.specs.declared.XMode.the-variants.{Linear, Exponential}
 use Rattle.lut.specs.declared.XSettings.{XSettings}
 use Rattle.lut.specs.declared.YSettings.{YSettings}
@@ -40,13 +40,6 @@ wider low high low2 high2 z f g e =
       le-leZ low2 z (omega (arith, leZ-true low2 low f, h .0)),
       le-leZ z high2 (omega (arith, leZ-true high high2 g, h .1)),
     ) refl
-
--- four tests that hold
-pub and-four : (a b c d : Bool) → a && b && c && d ≡ true → (a ≡ true) × (b ≡ true) × (c ≡ true) × (d ≡ true)
-and-four a b c d e =
-    let f = and-left (a && b && c) d e in
-    let g = and-left (a && b) c f in
-    (and-left a b g, and-right a b g, and-right (a && b) c f, and-right (a && b && c) d e)
 
 -- ---- Y
 

@@ -9,7 +9,7 @@ use lib.Dec.{leb, eqb}
 use lib.IntN.{ℤ}
 use lib.ListN.{length}
 use borrow.Author.Tests.{leb-true, eqb-true}
-use Rattle.general.proofs.TestLaws.{and-left, and-right}
+use Rattle.general.proofs.TestLaws.{and-left, and-right, and-four}
 use Rattle.refusal.specs.declared.Answer.the-variants.{Accepted, Refused}
 use Rattle.refusal.specs.declared.Refusal.{Refusal}
 use Rattle.refusal.specs.declared.Refusal.the-variants.{TableLength, XSelect, XEnd, YSelect, YEnd, Shift, Counters as CounterLimit, OutputLength}
@@ -21,7 +21,6 @@ use Rattle.lut.specs.Rules.{modeValid, endValid, ySelectValid, yEndValid
 use Rattle.lut.specs.Samples.{sampleAnswer, counted}
 use Rattle.lut.specs.Steps.{xValid, yValid}
 use Rattle.lut.specs.Calls.{runAnswer, runOutputs, runCounters}
-use Rattle.lut.proofs.SideLaws.{and-four}
 
 pub record Valid (s : LutSettings) (xs ys samples outputs : ℕ) (c : Counters) : Type 0 where
   pub x-long : xs ≡ 65

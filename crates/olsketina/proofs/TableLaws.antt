@@ -19,9 +19,10 @@ use Rattle.elements.proofs.TabulateLaws.{length-tabulate, getD-tabulate}
 use Rattle.layout.specs.declared.CubeLayout.{CubeLayout}
 use Rattle.regions.specs.declared.Region.{Region}
 use Rattle.regions.specs.declared.RegionTable.{RegionTable}
+use Rattle.regions.specs.Calls.{noRegion}
 use Rattle.olsketina.specs.Sizes.{layoutSize, slotSize, slotCount, tableSize}
 use Rattle.olsketina.specs.Words.{word, layoutAt}
-use Rattle.olsketina.specs.Tables.{regionAt, slotsAt, tableAt, layoutWords, regionWords, noRegion, tableWord, withTable, Outside}
+use Rattle.olsketina.specs.Tables.{regionAt, slotsAt, tableAt, layoutWords, regionWords, tableWord, withTable, Outside}
 use Rattle.olsketina.proofs.OverLaws.{overwritten-in, overwritten-same}
 use Rattle.olsketina.proofs.WordLaws.{says-flag, flagWord-says}
 

@@ -10,6 +10,7 @@ use Rattle.layout.specs.declared.CubeLayout.{CubeLayout}
 use Rattle.regions.specs.declared.Region.{Region}
 use Rattle.regions.specs.declared.RegionTable.{RegionTable}
 use Rattle.regions.specs.Slots.{rectangle}
+use Rattle.regions.specs.Calls.{noRegion}
 use Rattle.olsketina.specs.Sizes.{layoutSize, slotSize, slotCount, tableSize}
 use Rattle.olsketina.specs.Words.{word, overwritten, layoutAt}
 
@@ -45,10 +46,6 @@ layoutWords q = q .width ∷ q .height ∷ q .channels ∷ q .precision ∷ q .l
 -- a slot's words, the first over an old one
 abbrev pub regionWords : Region → ℕ → List ℕ
 regionWords g old = flagWord (g .placed) old ∷ g .rectangle .column ∷ g .rectangle .row ∷ g .rectangle .columns ∷ g .rectangle .rows ∷ []
-
--- an empty slot
-abbrev pub noRegion : Region
-noRegion = record { placed = false; rectangle = rectangle 0 0 0 0 }
 
 -- word i of a table, over an old one
 unfoldable pub tableWord : RegionTable → ℕ → ℕ → ℕ

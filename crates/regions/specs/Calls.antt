@@ -19,9 +19,13 @@ use Rattle.regions.specs.declared.RegionTable.{RegionTable}
 use Rattle.regions.specs.Slots.{rectangle}
 use Rattle.regions.specs.Rules.{accessOf, rectangleNamed, regionBox, placeChecks, regionBoxChecks, readChecks, editChecks}
 
+-- a slot with no region placed in it
+abbrev pub noRegion : Region
+noRegion = record { placed = false; rectangle = rectangle 0 0 0 0 }
+
 -- the empty table of a layout
 abbrev pub emptyTable : CubeLayout → RegionTable
-emptyTable q = record { layout = q; slots = replicate 16 (record { placed = false; rectangle = rectangle 0 0 0 0 }) }
+emptyTable q = record { layout = q; slots = replicate 16 noRegion }
 
 -- a slot with a region placed in it
 abbrev pub placedRegion : Rectangle → Region

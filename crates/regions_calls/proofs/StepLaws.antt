@@ -1,5 +1,4 @@
 -- The slots as the code reads them from the table's structs, and the box of the cube as it finds it. Assumes nothing.
---     length-mapped                         the length of an array of structs
 --     slotAt-region, slotAt-table           the slot of a number is what the table's struct stands for
 --     overlaps-table                        the overlap test of a table's structs
 --     number-past, filled-is, vacant-is     the tests of a slot, from its number and its flag
@@ -16,7 +15,7 @@ use native.Mathlib.Omega.{arith}
 use mathlib.Core.Path.{_≡_, refl, sym, ap, _∙_}
 use mathlib.Core.Bool.{Bool, true, false, not, cond, _&&_}
 use mathlib.Core.List.{List, map, append-assoc}
-use lib.ListN.{length, getD, length-map, List·getD-map}
+use lib.ListN.{length, getD, List·getD-map}
 use lib.Dec.{ltb}
 use borrow.Author.Tests.{lt-ltb, le-ltb}
 use lib.IntN.{ℤ}
@@ -36,21 +35,13 @@ use Rattle.layout.proofs.Valid.{Valid}
 use Rattle.regions.specs.declared.Rectangle.{Rectangle}
 use Rattle.regions.specs.declared.Region.{Region}
 use Rattle.regions.specs.declared.RegionTable.{RegionTable}
-use Rattle.regions_calls.specs.declared.rules.FoundBox.the-variants.{At, Refused as NotFound}
 use Rattle.regions.specs.Slots.{rectangle, Slot, empty, filled, slotOf, slotsOf, overlaps, rectangleInside}
 use Rattle.regions.specs.Rules.{Access, slotAt, isFilled, rectangleOf, rectangleNamed, boxInRectangle, cubeBox, regionBox, slotChecks, regionBoxChecks, accessOf, readChecks, editChecks}
-use Rattle.regions_calls.specs.Steps.{boxIn, foundBox}
-use Rattle.regions.specs.Calls.{editAnswer, editBuffer, readAnswer, readElements, regionPosition}
+use Rattle.regions.specs.Calls.{noRegion, editAnswer, editBuffer, readAnswer, readElements, regionPosition}
 use Rattle.regions.proofs.RuleLaws.{ValidBounds}
 use Rattle.regions.proofs.CallLaws.{box-passes, after-9}
-
--- a struct with no region placed
-abbrev noRegion : Region
-noRegion = record { placed = false; rectangle = rectangle 0 0 0 0 }
-
--- the length of an array of structs is told of the list of their values
-pub length-mapped : {A B : Type 0} (f : A → B) (l : List A) (n : ℕ) → length (map f l) ≡ n → length l ≡ n
-length-mapped f l n e = sym (length-map l f) ∙ e
+use Rattle.regions_calls.specs.declared.rules.FoundBox.the-variants.{At, Refused as NotFound}
+use Rattle.regions_calls.specs.Steps.{boxIn, foundBox}
 
 pub slotAt-region : (l : List Region) (n : ℕ) → slotOf (getD l n noRegion) ≡ slotAt (map slotOf l) n
 unfolding slotOf slotAt

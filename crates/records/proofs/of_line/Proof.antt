@@ -5,10 +5,10 @@ use native.Mathlib.Omega.{arith}
 use lib.ListN.{length}
 use lib.Seq.{length-take-le}
 use borrow.Author.Tests.{not-true, not-false, leb-true}
-use Rattle.lines.proofs.StepLaws.{length-mapped}
+use borrow.Author.Needs.{needs}
+use Rattle.general.proofs.ListLaws.{length-mapped}
 use Rattle.lines.specs.Collecting.{lineText}
 use Rattle.records.specs.Records.{lineRecord}
-use borrow.Author.Needs.{needs}
 use Rattle.records.proofs.of_line.Statement.{statement}
 use Rattle.records.proofs.of_line.Tie as tie
 

@@ -6,7 +6,7 @@ use native.Mathlib.Omega.{arith}
 use lib.ListN.{length}
 use lib.Seq.{length-take-le}
 use borrow.Author.Needs.{needs}
-use Rattle.lines.proofs.StepLaws.{length-mapped}
+use Rattle.general.proofs.ListLaws.{length-mapped}
 use Rattle.sheet_io.specs.Printing.{checksum}
 use Rattle.sheet_io.proofs.PrintLaws.{kept-text}
 use Rattle.sheet_io.proofs.write.Statement.{statement}

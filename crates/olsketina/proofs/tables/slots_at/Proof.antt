@@ -7,9 +7,10 @@ use mathlib.Core.List.{List}
 use lib.ListN.{length}
 use Rattle.elements.specs.Lists.{tabulate, tabulateFrom}
 use Rattle.regions.specs.declared.Region.{Region}
+use Rattle.regions.specs.Calls.{noRegion}
 use Rattle.olsketina.specs.Sizes.{slotSize, slotCount}
 use Rattle.olsketina.specs.Words.{overwritten}
-use Rattle.olsketina.specs.Tables.{regionAt, slotsAt, noRegion}
+use Rattle.olsketina.specs.Tables.{regionAt, slotsAt}
 use Rattle.olsketina.proofs.OverLaws.{overwritten-length, overwritten-next}
 use Rattle.olsketina.proofs.tables.slots_at.Statement.{statement}
 use Rattle.olsketina.proofs.tables.slots_at.Tie as tie

@@ -6,12 +6,13 @@ use mathlib.Core.Bool.{false}
 use mathlib.Core.List.{map}
 use lib.ListN.{length, length-map}
 use borrow.Author.Count.{below-none, below-more}
+use borrow.Author.Needs.{needs}
+use Rattle.general.proofs.ListLaws.{length-mapped}
 use Rattle.regions.specs.Slots.{Slot, slotOf}
 use Rattle.regions.specs.Rules.{slotAt}
 use Rattle.regions_calls.specs.Steps.{slotMeets}
 use Rattle.regions_calls.proofs.MeetLaws.{one-meets, none-meets}
-use Rattle.regions_calls.proofs.StepLaws.{slotAt-region, length-mapped}
-use borrow.Author.Needs.{needs}
+use Rattle.regions_calls.proofs.StepLaws.{slotAt-region}
 use Rattle.regions_calls.proofs.overlap.any_meets.Statement.{statement}
 use Rattle.regions_calls.proofs.overlap.any_meets.Tie as tie
 
