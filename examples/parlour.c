@@ -1,5 +1,5 @@
-/* A parlour: one picture for all, packed; two pupils' stalls in it; an edit and a read through a stall; and three refusals, each printed with its
- * sentence.
+/* A parlour: one picture for all, packed; two pupils' stalls in it, each under its pupil's number; an edit and a read through a stall; four
+ * refusals, each printed with its sentence; then a pupil leaves, and the next one finds the stall empty.
  *
  *   cc -std=c11 -Wall -Wextra -pedantic -Iinclude examples/parlour.c target/staticlib/libolsketina.a -o parlour
  *   ./parlour
@@ -8,6 +8,9 @@
 #include <stdio.h>
 
 #include "olsketina.h"
+
+/* The pupils' numbers. */
+enum { ADA = 1815, BEN = 1791, CLARA = 1819 };
 
 enum { WIDTH = 3, HEIGHT = 2, CHANNELS = 40, ELEMENTS = WIDTH * HEIGHT * CHANNELS, BYTES = 480 };
 
@@ -34,7 +37,7 @@ int main(void)
     int16_t elements[ELEMENTS];
     int16_t seen[2] = {0, 0};
     uint8_t buffer[BYTES] = {0};
-    uint64_t position = 0;
+    uint64_t position = 0, cells = 0;
     size_t fault = 0;
     int good = 1;
 
@@ -44,19 +47,29 @@ int main(void)
 
     /* Two stalls: the two left columns, and the upper row of the right one. */
     olsketina_regions_empty(layout, table);
-    good &= told("place in slot 0", olsketina_regions_place(table, 0, 0, 0, 2, 2, &fault), &fault);
-    good &= told("place in slot 1", olsketina_regions_place(table, 1, 2, 0, 1, 1, &fault), &fault);
+    good &= told("place in slot 0", olsketina_regions_place(table, 0, ADA, 0, 0, 2, 2, &fault), &fault);
+    good &= told("place in slot 1", olsketina_regions_place(table, 1, BEN, 2, 0, 1, 1, &fault), &fault);
 
-    good &= told("edit through slot 0", olsketina_regions_edit(table, 0, pair, sevens, 2, buffer, BYTES, &fault), &fault);
-    good &= told("read through slot 0", olsketina_regions_read(table, 0, pair, buffer, BYTES, seen, 2, &fault), &fault);
-    good &= told("position in slot 0", olsketina_regions_position(table, 0, 33, 0, 1, &position, &fault), &fault);
+    good &= told("edit through slot 0", olsketina_regions_edit(table, 0, ADA, pair, sevens, 2, buffer, BYTES, &fault), &fault);
+    good &= told("read through slot 0", olsketina_regions_read(table, 0, ADA, pair, buffer, BYTES, seen, 2, &fault), &fault);
+    good &= told("position in slot 0", olsketina_regions_position(table, 0, ADA, 33, 0, 1, &position, &fault), &fault);
     printf("read %d and %d; the second begins at byte %" PRIu64 "\n", seen[0], seen[1], position);
 
-    /* Refused: an overlap, a box outside of its stall, an element that no int8 holds. */
-    good &= !told("place over slot 0", olsketina_regions_place(table, 2, 1, 1, 2, 1, &fault), &fault);
-    good &= !told("read below slot 1", olsketina_regions_read(table, 1, below, buffer, BYTES, seen, 1, &fault), &fault);
-    good &= !told("edit with 200", olsketina_regions_edit(table, 0, pair, bright, 2, buffer, BYTES, &fault), &fault);
-
     good &= seen[0] == 7 && seen[1] == -7 && position == 289;
+
+    /* Refused: an overlap, a box outside of its stall, an element that no int8 holds, an edit from the wrong chair. */
+    good &= !told("place over slot 0", olsketina_regions_place(table, 2, CLARA, 1, 1, 2, 1, &fault), &fault);
+    good &= !told("read below slot 1", olsketina_regions_read(table, 1, BEN, below, buffer, BYTES, seen, 1, &fault), &fault);
+    good &= !told("edit with 200", olsketina_regions_edit(table, 0, ADA, pair, bright, 2, buffer, BYTES, &fault), &fault);
+    good &= !told("edit of another's", olsketina_regions_edit(table, 0, BEN, pair, sevens, 2, buffer, BYTES, &fault), &fault);
+
+    /* Ada leaves: her cells become zero, and Clara may have the slot and the room. */
+    good &= told("count in slot 0", olsketina_regions_count(table, 0, ADA, &cells, &fault), &fault);
+    good &= told("release slot 0", olsketina_regions_release(table, 0, ADA, buffer, BYTES, &fault), &fault);
+    good &= told("place in slot 0", olsketina_regions_place(table, 0, CLARA, 0, 0, 2, 2, &fault), &fault);
+    good &= told("read through slot 0", olsketina_regions_read(table, 0, CLARA, pair, buffer, BYTES, seen, 2, &fault), &fault);
+    printf("%" PRIu64 " cells cleared; read %d and %d\n", cells, seen[0], seen[1]);
+
+    good &= seen[0] == 0 && seen[1] == 0 && cells == 160;
     return good && fflush(stdout) == 0 ? 0 : 1;
 }

@@ -19,7 +19,7 @@
 #include <stdint.h>
 
 /* The header's version; olsketina_version() gives the archive's. It grows with every change of a call or of a word's meaning. */
-#define OLSKETINA_VERSION 2
+#define OLSKETINA_VERSION 3
 
 /* A parameter that points to (at least) n elements; a result that must be looked at. */
 #ifdef __cplusplus
@@ -67,7 +67,8 @@ enum olsketina_refusal {
     OLSKETINA_REFUSED_X_OFFSET = 21,
     OLSKETINA_REFUSED_PIXEL_STRIDES = 22,
     OLSKETINA_REFUSED_PIXEL_OUTSIDE = 23,
-    OLSKETINA_REFUSED_SCRIPT_LINE = 24
+    OLSKETINA_REFUSED_SCRIPT_LINE = 24,
+    OLSKETINA_REFUSED_OWNER_ID = 25
 };
 
 /* A refusal's plain sentence, for any number. */
@@ -99,6 +100,7 @@ static inline const char *olsketina_sentence(uint32_t refusal)
     case OLSKETINA_REFUSED_PIXEL_STRIDES: return "the start or line stride of the image is no multiple of 32, or the line is too short";
     case OLSKETINA_REFUSED_PIXEL_OUTSIDE: return "the pixel is outside the image";
     case OLSKETINA_REFUSED_SCRIPT_LINE: return "a line cannot be read as a record, or a file cannot be opened, read or written";
+    case OLSKETINA_REFUSED_OWNER_ID: return "the owner's id is not 1 to 65535, or not that of the region";
     default: return "no number of a refusal";
     }
 }
@@ -162,13 +164,15 @@ OLSKETINA_NODISCARD uint32_t olsketina_cube_position(
 #define OLSKETINA_BOX_COLUMNS 5
 #define OLSKETINA_BOX_WORDS 6
 
-/* words of a slot: placed (0 is empty, any other is placed), then the rectangle. The last four of an empty slot mean nothing. */
+/* words of a slot: placed (0 is empty, any other is placed), the id of the region's owner (1 to 65535, the scope paper's pupil's number), then the
+ * rectangle. The last five of an empty slot mean nothing. */
 #define OLSKETINA_SLOT_PLACED 0
-#define OLSKETINA_SLOT_COLUMN 1
-#define OLSKETINA_SLOT_ROW 2
-#define OLSKETINA_SLOT_COLUMNS 3
-#define OLSKETINA_SLOT_ROWS 4
-#define OLSKETINA_SLOT_WORDS 5
+#define OLSKETINA_SLOT_OWNER 1
+#define OLSKETINA_SLOT_COLUMN 2
+#define OLSKETINA_SLOT_ROW 3
+#define OLSKETINA_SLOT_COLUMNS 4
+#define OLSKETINA_SLOT_ROWS 5
+#define OLSKETINA_SLOT_WORDS 6
 
 /* words of a table: those of its layout, then those of each slot; OLSKETINA_TABLE_SLOT(n) is the index of slot n's first word */
 #define OLSKETINA_SLOTS 16
@@ -181,29 +185,42 @@ OLSKETINA_NODISCARD uint32_t olsketina_cube_position(
 void olsketina_regions_empty(
     const uint32_t layout[OLSKETINA_WORDS(OLSKETINA_LAYOUT_WORDS)], uint32_t table[OLSKETINA_WORDS(OLSKETINA_TABLE_WORDS)]);
 
-/* Places a region in an empty slot: the slot's words are written, 1 as placed, and every other word stays.
- * Order: 1, 2, 3, 4, 8, 9, 10. */
+/* Places a region of an owner in an empty slot: the slot's words are written, 1 as placed, and every other word stays.
+ * Order: 1, 2, 3, 4, 25, 8, 9, 10. */
 OLSKETINA_NODISCARD uint32_t olsketina_regions_place(
     uint32_t table[OLSKETINA_WORDS(OLSKETINA_TABLE_WORDS)],
-    uint32_t slot, uint32_t column, uint32_t row, uint32_t columns, uint32_t rows, size_t *fault);
+    uint32_t slot, uint32_t id, uint32_t column, uint32_t row, uint32_t columns, uint32_t rows, size_t *fault);
 
-/* Writes the elements of a box, counted from the corner of the region in a slot, and no other byte.
- * Order: 1, 2, 3, 4, 8, 9, 6, 5, 7 (fault: the least index at fault). */
+/* Writes the elements of a box, counted from the corner of the owner's region in a slot, and no other byte.
+ * Order: 1, 2, 3, 4, 8, 25, 9, 6, 5, 7 (fault: the least index at fault). */
 OLSKETINA_NODISCARD uint32_t olsketina_regions_edit(
-    const uint32_t table[OLSKETINA_WORDS(OLSKETINA_TABLE_WORDS)], uint32_t slot, const uint32_t box[OLSKETINA_WORDS(OLSKETINA_BOX_WORDS)],
+    const uint32_t table[OLSKETINA_WORDS(OLSKETINA_TABLE_WORDS)],
+    uint32_t slot, uint32_t id, const uint32_t box[OLSKETINA_WORDS(OLSKETINA_BOX_WORDS)],
     const int16_t *elements, size_t elements_len, uint8_t *buffer, size_t buffer_len, size_t *fault);
 
-/* Reads the elements of a box, counted from the corner of the region in a slot.
- * Order: 1, 2, 3, 4, 8, 9, 6, 5. */
+/* Reads the elements of a box, counted from the corner of the owner's region in a slot.
+ * Order: 1, 2, 3, 4, 8, 25, 9, 6, 5. */
 OLSKETINA_NODISCARD uint32_t olsketina_regions_read(
-    const uint32_t table[OLSKETINA_WORDS(OLSKETINA_TABLE_WORDS)], uint32_t slot, const uint32_t box[OLSKETINA_WORDS(OLSKETINA_BOX_WORDS)],
+    const uint32_t table[OLSKETINA_WORDS(OLSKETINA_TABLE_WORDS)],
+    uint32_t slot, uint32_t id, const uint32_t box[OLSKETINA_WORDS(OLSKETINA_BOX_WORDS)],
     const uint8_t *buffer, size_t buffer_len, int16_t *elements, size_t elements_len, size_t *fault);
 
-/* The byte at which an element begins, counted from the corner of the region in a slot, stored in *value.
- * Order: 1, 2, 3, 4, 8, 9. */
+/* Releases the owner's region in a slot: its elements become 0, and no other byte changes; the slot's words become 0, and every other word stays.
+ * Order: 1, 2, 3, 4, 8, 25, 9, 5. */
+OLSKETINA_NODISCARD uint32_t olsketina_regions_release(
+    uint32_t table[OLSKETINA_WORDS(OLSKETINA_TABLE_WORDS)],
+    uint32_t slot, uint32_t id, uint8_t *buffer, size_t buffer_len, size_t *fault);
+
+/* The byte at which an element begins, counted from the corner of the owner's region in a slot, stored in *value.
+ * Order: 1, 2, 3, 4, 8, 25, 9. */
 OLSKETINA_NODISCARD uint32_t olsketina_regions_position(
     const uint32_t table[OLSKETINA_WORDS(OLSKETINA_TABLE_WORDS)],
-    uint32_t slot, uint32_t channel, uint32_t row, uint32_t column, uint64_t *value, size_t *fault);
+    uint32_t slot, uint32_t id, uint32_t channel, uint32_t row, uint32_t column, uint64_t *value, size_t *fault);
+
+/* How many elements the owner's region in a slot has, stored in *value.
+ * Order: 1, 2, 3, 4, 8, 25, 9. */
+OLSKETINA_NODISCARD uint32_t olsketina_regions_count(
+    const uint32_t table[OLSKETINA_WORDS(OLSKETINA_TABLE_WORDS)], uint32_t slot, uint32_t id, uint64_t *value, size_t *fault);
 
 /* ---- direct-convolution weights */
 

@@ -137,16 +137,19 @@ COMMANDS = {
     "pack": ("n" * 7, {"buffer"}, PACKED),
     "write": ("n" * 13, {"buffer"}, PACKED),
     "pack_weights": ("n" * 5, {"buffer"}, PACKED),
-    "edit": ("n" * 7, {"buffer"}, PACKED | {"desk"}),
+    "edit": ("n" * 8, {"buffer"}, PACKED | {"desk"}),
     "unpack": ("n" * 7, {"elements"}, PACKED),
     "read": ("n" * 13, {"elements"}, PACKED),
     "unpack_weights": ("n" * 5, {"elements"}, PACKED),
-    "look": ("n" * 7, {"elements"}, PACKED | {"desk"}),
+    "look": ("n" * 8, {"elements"}, PACKED | {"desk"}),
     "desk": ("n" * 7, {"desk"}, set()),
-    "place": ("n" * 5, {"desk"}, {"desk"}),
-    "hand slot": ("n" * 6, {"desk"}, {"desk"}),
+    "place": ("n" * 6, {"desk"}, {"desk"}),
+    "release": ("n" * 2, {"buffer", "desk"}, PACKED | {"desk"}),
+    "hand slot": ("n" * 7, {"desk"}, {"desk"}),
     "hand layout": ("n" * 7, {"desk"}, {"desk"}),
     "pixel setting": ("n" * 8, set(), set()),
+    "stall position": ("n" * 5, set(), {"desk"}),
+    "stall count": ("n" * 2, set(), {"desk"}),
     "position": ("n" * 10, set(), set()),
     "extent": ("n" * 7, set(), set()),
     "pixel position": ("n" * 10, set(), set()),
@@ -264,9 +267,9 @@ class Board:
         self.picture = self.packed = None
         return self.left(weights.pack(q, *lent), "buffer")
 
-    def on_box(self, name, slot, *box):
+    def on_box(self, name, slot, owner, *box):
         """`edit`, `look`."""
-        called = (slot, cube.Box(*box), self.lists["elements"])
+        called = (slot, owner, cube.Box(*box), self.lists["elements"])
         if name == "edit":
             answer = regions.edit(self.table, *called, self.lists["buffer"])
             assert not self.picture or self.picture.edit(*called) == answer[:2]
@@ -279,6 +282,15 @@ class Board:
         self.check_picture()
         return out
 
+    def on_release(self, *called):
+        """`release`."""
+        code, index, self.table, buffer = regions.release(self.table, *called, self.lists["buffer"])
+        assert not self.picture or self.picture.release(*called) == (code, index)
+        self.packed = None
+        out = self.left((code, index, buffer), "buffer")
+        self.check_picture()
+        return out
+
     def on_table(self, name, given):
         """`desk`, `place`, `hand slot`, `hand layout`."""
         code, index = 0, 0
@@ -287,9 +299,9 @@ class Board:
             self.table = regions.empty_table(q)
             self.picture = regions.PlainPicture(*self.packed) if self.packed and self.packed[0] == q else None
         elif name == "place":
-            g = regions.Rectangle(*given[1:])
-            code, index, self.table = regions.place(self.table, given[0], g)
-            assert not self.picture or self.picture.place(given[0], g) == (code, index)
+            called = (*given[:2], regions.Rectangle(*given[2:]))
+            code, index, self.table = regions.place(self.table, *called)
+            assert not self.picture or self.picture.place(*called) == (code, index)
         else:
             self.by_hand(name, given)
         self.check_picture()
@@ -301,7 +313,7 @@ class Board:
         if name == "hand layout":
             self.table = self.table._replace(layout=cube.CubeLayout(*given))
         elif given[0] < regions.SLOT_COUNT:
-            slot = regions.Slot(given[1] != 0, regions.Rectangle(*given[2:]))
+            slot = regions.Slot(given[1] != 0, given[2], regions.Rectangle(*given[3:]))
             self.table = self.table._replace(slots=regions.with_slot(self.table.slots, given[0], slot))
 
     def check_picture(self):
@@ -316,6 +328,10 @@ class Board:
         """The commands that answer a code, an index and a value, or the first two alone."""
         if name == "position":
             answer = cube.position(cube.CubeLayout(*given[:7]), *given[7:])
+        elif name == "stall position":
+            answer = regions.position(self.table, *given)
+        elif name == "stall count":
+            answer = regions.count(self.table, *given)
         elif name == "extent":
             answer = cube.extent(cube.CubeLayout(*given))
         elif name == "whose":
@@ -404,6 +420,8 @@ class Board:
             return self.on_weights(name, given)
         if name in ("edit", "look"):
             return self.on_box(name, *given)
+        if name == "release":
+            return self.on_release(*given)
         if name in ("desk", "place", "hand slot", "hand layout"):
             return self.on_table(name, given)
         if name == "ready":

@@ -70,19 +70,25 @@ def conversion_lines(t):
 # --- sessions ---
 
 def session_lines(t):
-    """A line of a session of placings, edits and reads."""
+    """A line of a session of placings, edits, reads and releases."""
     if t.op == regions_cases.BEGIN:
         yield from element_lines(t)
         yield said("draw buffer", t.m, seed())
         yield said("pack", *t[1:8])
         yield said("desk", *t[1:8])
     elif t.op == regions_cases.PLACE:
-        yield said("place", *t[1:6])
+        yield said("place", *t[1:7])
     elif t.op in (regions_cases.EDIT, regions_cases.READ):
         yield from element_lines(t)
-        yield said("edit" if t.op == regions_cases.EDIT else "look", t.slot, *t[8:14])
+        yield said("edit" if t.op == regions_cases.EDIT else "look", t.slot, t.owner, *t[8:14])
     elif t.op == regions_cases.HAND_SLOT:
-        yield said("hand slot", *t[1:7])
+        yield said("hand slot", *t[1:8])
+    elif t.op == regions_cases.RELEASE:
+        yield said("release", *t[1:3])
+    elif t.op == regions_cases.POSITION:
+        yield said("stall position", *t[1:6])
+    elif t.op == regions_cases.COUNT:
+        yield said("stall count", *t[1:3])
     else:
         yield said("hand layout", *t[1:8])
 

@@ -125,13 +125,16 @@ def box_code(q, box):
     return 0 if inside else 9
 
 
+def room_code(q, buffer):
+    """Check 5: the buffer holds the whole cube."""
+    return 5 if q.start + extent_bytes(q) > len(buffer) else 0
+
+
 def lent_code(q, box, elements, buffer):
-    """Checks 6, 5: the element count of the box exactly, and a buffer that holds the whole cube."""
+    """Checks 6, 5: the element count of the box exactly, and room in the buffer."""
     if len(elements) != box.channels * box.rows * box.columns:
         return 6
-    if q.start + extent_bytes(q) > len(buffer):
-        return 5
-    return 0
+    return room_code(q, buffer)
 
 
 def range_check(q, elements):

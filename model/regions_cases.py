@@ -1,29 +1,37 @@
-"""The test cases of the region tables: seeded sessions of placings, edits and reads.
+"""The test cases of the region tables: seeded sessions of placings, edits, reads and releases.
 
 Renders no rule of its own; the sessions stand at the limits named in the scope
-paper's "Stalls" and "Refusal numbers". Each field of a line is described in
-README.md. A session is a list of lines that begins with a packing.
+paper's "Stalls" and "Refusal numbers", and in change request K1. Each field of a
+line is described in README.md. A session is a list of lines that begins with a
+packing.
 """
 
 import random
+from collections import namedtuple
 from itertools import product
 
 from cases import case_type, lent_case
 from cube import ATOM, ELEMENT_BYTES, U32_MAX, Box, CubeLayout, extent_bytes
 from cube_cases import layout
-from regions import SLOT_COUNT, Rectangle
+from regions import ID_MAX, SLOT_COUNT, Rectangle, whole_region
 
 LayoutCase = case_type("LayoutCase", "width height channels precision line surface start")
-PlaceCase = case_type("PlaceCase", "slot column row columns rows")
-BoxCase = case_type("BoxCase", "slot gap2 gap3 gap4 gap5 gap6 gap7 c h w nc nh nw")
-SlotCase = case_type("SlotCase", "slot placed column row columns rows")
+PlaceCase = case_type("PlaceCase", "slot owner column row columns rows")
+BoxCase = case_type("BoxCase", "slot owner gap3 gap4 gap5 gap6 gap7 c h w nc nh nw")
+SlotCase = case_type("SlotCase", "slot placed owner column row columns rows")
+WholeCase = case_type("WholeCase", "slot owner")
+ElementCase = case_type("ElementCase", "slot owner c h w")
+# what a session knows of a slot that is placed
+Seat = namedtuple("Seat", "owner rectangle")
 
-BEGIN, PLACE, EDIT, READ, HAND_SLOT, HAND_LAYOUT = range(20, 26)
+BEGIN, PLACE, EDIT, READ, HAND_SLOT, HAND_LAYOUT, RELEASE, POSITION, COUNT = range(20, 29)
 
 SESSION_ELEMENTS_MAX = 2048
 SESSION_BUFFER_MAX = 16384
 PRECISIONS = range(3)
 NO_SLOTS = (16, 17, 31, 32, 256, 65536, U32_MAX)
+NO_IDS = (0, ID_MAX + 1, 70000, 131072, 2147483648, U32_MAX)
+PUPILS = (1, 2, 3, 7, 255, 256, 4464, 32768, ID_MAX - 1, ID_MAX)
 PAST_INT8 = (0, 32639, 32896, 65535)
 UNIT_BOX = Box(0, 0, 0, 1, 1, 1)
 
@@ -36,16 +44,21 @@ def begin(q, more=0, **changes):
                      q.start + extent_bytes(q) + more, True, **changes)
 
 
-def placed(slot, g):
+def usual(slot):
+    """The owner of a slot where no other is named; neighbours have the same one now and then."""
+    return PUPILS[slot * 3 // 4 % len(PUPILS)]
+
+
+def placed(slot, g, owner=None):
     """A placing."""
-    return PlaceCase(PLACE, slot, *g)
+    return PlaceCase(PLACE, slot, usual(slot) if owner is None else owner, *g)
 
 
 def boxed(op, q, slot, box, **changes):
-    """An edit or read with as many elements as the box has, then changed."""
+    """An edit or read by the usual owner with as many elements as the box has, then changed."""
     base, span = (32640, 256) if op == EDIT and q.precision == 0 else (0, 65536)
     count = min(box.channels * box.rows * box.columns, SESSION_ELEMENTS_MAX)
-    t = BoxCase(op, slot, *[0] * 6, *box, n=count, base=base, span=span,
+    t = BoxCase(op, slot, usual(slot), *[0] * 5, *box, n=count, base=base, span=span,
                 fault_index=U32_MAX)._replace(**changes)
     return t if t.fault_index < t.n else t._replace(fault_index=t.n)
 
@@ -55,19 +68,25 @@ def both(q, slot, box, **changes):
     return [boxed(op, q, slot, box, **changes) for op in (EDIT, READ)]
 
 
-def hand_slot(slot, is_placed, *numbers):
+def released(slot, owner=None):
+    """A release."""
+    return WholeCase(RELEASE, slot, usual(slot) if owner is None else owner)
+
+
+def asked(slot, c=0, h=0, w=0, owner=None):
+    """The position of an element, and the count of its region."""
+    owner = usual(slot) if owner is None else owner
+    return [ElementCase(POSITION, slot, owner, c, h, w), WholeCase(COUNT, slot, owner)]
+
+
+def hand_slot(slot, is_placed, *numbers, owner=None):
     """Numbers put into a slot by hand."""
-    return SlotCase(HAND_SLOT, slot, is_placed, *numbers)
+    return SlotCase(HAND_SLOT, slot, is_placed, usual(slot) if owner is None else owner, *numbers)
 
 
 def hand_layout(q):
     """A layout put into the table by hand."""
     return LayoutCase(HAND_LAYOUT, *q)
-
-
-def whole_region(q, g):
-    """The box that is the whole region."""
-    return Box(0, 0, 0, q.channels, g.rows, g.columns)
 
 
 def third(items, precision):
@@ -157,29 +176,42 @@ def wrong_box(rng, q, g, box):
     return box._replace(**changes)
 
 
-# --- random calls; `regions` has the rectangle of each slot that is placed ---
+# --- random calls; `seats` has the owner and the rectangle of each slot that is placed ---
 
-def some_call(rng, q, regions):
+def some_call(rng, q, seats):
     """An accepted edit or read."""
-    slot = rng.choice(sorted(regions))
-    return boxed(rng.choice((EDIT, EDIT, READ)), q, slot, some_box(rng, q, regions[slot]))
+    slot = rng.choice(sorted(seats))
+    box = some_box(rng, q, seats[slot].rectangle)
+    return boxed(rng.choice((EDIT, EDIT, READ)), q, slot, box, owner=seats[slot].owner)
 
 
-def other_slot(rng, regions):
+def other_slot(rng, seats):
     """A slot that is not placed, or none of the sixteen."""
-    free = [n for n in range(SLOT_COUNT) if n not in regions]
+    free = [n for n in range(SLOT_COUNT) if n not in seats]
     return rng.choice(free) if free and rng.random() < 0.6 else rng.choice(NO_SLOTS)
 
 
-def faulty_call(rng, q, regions):
-    """An edit or read with one or two faults of 8, 9, 6, 7 (7 is none in a read, nor past int8)."""
-    slot, op = rng.choice(sorted(regions)), rng.choice((EDIT, EDIT, READ))
-    g = regions[slot]
+def other_id(rng, seats, slot):
+    """An id that is none, another pupil's, or next to the owner's."""
+    owner = seats[slot].owner
+    kind = rng.random()
+    if kind < 0.4:
+        return rng.choice(NO_IDS)
+    if kind < 0.7:
+        return rng.choice([p for p in PUPILS if p != owner])
+    return rng.choice((owner - 1, owner + 1, owner + ID_MAX + 1))
+
+
+def faulty_call(rng, q, seats):
+    """An edit or read with one or two faults of 8, 25, 9, 6, 7 (7 is none in a read, nor past int8)."""
+    slot, op = rng.choice(sorted(seats)), rng.choice((EDIT, EDIT, READ))
+    owner, g = seats[slot]
     box = some_box(rng, q, g)
-    kinds = set(rng.choice(((8,), (9,), (9,), (6,), (7,), (7,), (7, 7), (8, 9), (8, 6), (9, 6), (6, 7),
-                            (9, 7))))
-    t = boxed(op, q, other_slot(rng, regions) if 8 in kinds else slot,
-              wrong_box(rng, q, g, box) if 9 in kinds else box)
+    kinds = set(rng.choice(((8,), (25,), (25,), (9,), (9,), (6,), (7,), (7,), (7, 7), (8, 25), (8, 9), (8, 6),
+                            (25, 9), (25, 9), (25, 6), (25, 7), (9, 6), (6, 7), (9, 7))))
+    t = boxed(op, q, other_slot(rng, seats) if 8 in kinds else slot,
+              wrong_box(rng, q, g, box) if 9 in kinds else box,
+              owner=other_id(rng, seats, slot) if 25 in kinds else owner)
     if 6 in kinds:
         count = rng.choice((t.n - 1, t.n + 1, 0, t.n + 32, t.n // 2))
         t = t._replace(n=min(max(0, count), SESSION_ELEMENTS_MAX), fault_index=U32_MAX)
@@ -191,50 +223,84 @@ def faulty_call(rng, q, regions):
     return t if t.fault_index < t.n else t._replace(fault_index=t.n)
 
 
-def faulty_place(rng, q, regions):
-    """A placing with a fault of 8, 9 or 10, or of several."""
-    free = [n for n in range(SLOT_COUNT) if n not in regions]
+def faulty_place(rng, q, seats):
+    """A placing with a fault of 25, 8, 9 or 10, or of several."""
+    free = [n for n in range(SLOT_COUNT) if n not in seats]
     slot = rng.choice(free) if free and rng.random() < 0.8 else other_slot(rng, {})
-    g = regions[rng.choice(sorted(regions))]
+    owner = rng.choice(NO_IDS if rng.random() < 0.25 else PUPILS)
+    g = seats[rng.choice(sorted(seats))].rectangle
     if rng.random() < 0.35:
         return placed(slot, rng.choice((
             g._replace(columns=0), g._replace(rows=0), g._replace(columns=q.width - g.column + 1),
             g._replace(rows=q.height - g.row + 1), g._replace(column=U32_MAX, columns=2),
-            g._replace(row=U32_MAX), g._replace(rows=U32_MAX), Rectangle(q.width, 0, 1, 1))))
+            g._replace(row=U32_MAX), g._replace(rows=U32_MAX), Rectangle(q.width, 0, 1, 1))), owner)
     if rng.random() < 0.2:
         return placed(slot, rng.choice((g, Rectangle(0, 0, q.width, q.height),
-                                        g._replace(columns=1, rows=1))))
-    return placed(slot, over_corner(q, g, rng.randrange(2), rng.randrange(2), rng.randrange(4)))
+                                        g._replace(columns=1, rows=1))), owner)
+    return placed(slot, over_corner(q, g, rng.randrange(2), rng.randrange(2), rng.randrange(4)), owner)
 
 
-def calls(rng, q, regions, count):
-    """So many calls, mostly accepted ones."""
+def faulty_release(rng, seats):
+    """A release with a fault of 8 or 25, or of both."""
+    slot = rng.choice(sorted(seats))
+    kinds = rng.choice(((8,), (25,), (25,), (8, 25)))
+    return released(other_slot(rng, seats) if 8 in kinds else slot,
+                    other_id(rng, seats, slot) if 25 in kinds else seats[slot].owner)
+
+
+def leaving(rng, q, seats):
+    """A pupil leaves, and tries again; another sits on that room, in that slot or another one, and reads it."""
+    slot = rng.choice(sorted(seats))
+    owner, g = seats.pop(slot)
+    yield released(slot, owner)
+    yield rng.choice((released(slot, owner), boxed(READ, q, slot, UNIT_BOX, owner=owner)))
+    if seats and rng.random() < 0.5:
+        yield some_call(rng, q, seats)
+    free = [n for n in range(SLOT_COUNT) if n not in seats]
+    slot = slot if rng.random() < 0.5 else rng.choice(free)
+    seats[slot] = Seat(rng.choice(PUPILS), g)
+    yield placed(slot, g, seats[slot].owner)
+    if seats[slot].owner != owner:
+        yield boxed(READ, q, slot, UNIT_BOX, owner=owner)
+    yield boxed(READ, q, slot, some_box(rng, q, g), owner=seats[slot].owner)
+
+
+def calls(rng, q, seats, count, leaves=True):
+    """So many calls, mostly accepted ones; no pupil leaves unless `leaves`."""
     for _ in range(count):
         kind = rng.random()
-        if kind < 0.8:
-            yield some_call(rng, q, regions)
+        if kind < 0.76:
+            yield some_call(rng, q, seats)
+        elif kind < 0.91:
+            yield faulty_call(rng, q, seats)
         elif kind < 0.95:
-            yield faulty_call(rng, q, regions)
+            yield faulty_place(rng, q, seats)
+        elif kind < 0.97 or not leaves:
+            yield faulty_release(rng, seats)
         else:
-            yield faulty_place(rng, q, regions)
+            yield from leaving(rng, q, seats)
 
 
 def some_session(rng, q, rectangles, more, steps, count):
     """Regions placed one after another, with so many calls after each and then so many at the end."""
     yield begin(q, more)
     yield boxed(READ, q, 0, UNIT_BOX)
-    regions = {}
+    seats = {}
     slots = rng.sample(range(SLOT_COUNT), len(rectangles))
     for slot, g in zip(slots, rectangles):
-        yield placed(slot, g)
-        regions[slot] = g
-        yield from calls(rng, q, regions, steps)
+        slot = slot if slot not in seats else min(set(range(SLOT_COUNT)) - set(seats))
+        seats[slot] = Seat(rng.choice(PUPILS), g)
+        yield placed(slot, g, seats[slot].owner)
+        yield from calls(rng, q, seats, steps)
         if rng.random() < 0.5:
-            yield faulty_place(rng, q, regions)
-    yield from calls(rng, q, regions, count)
-    for slot in sorted(regions):
+            yield faulty_place(rng, q, seats)
+    yield from calls(rng, q, seats, count)
+    for slot, (owner, g) in sorted(seats.items()):
         if rng.random() < 0.3:
-            yield boxed(READ, q, slot, whole_region(q, regions[slot]))
+            yield boxed(READ, q, slot, whole_region(q, g), owner=owner)
+    for slot, (owner, _) in sorted(seats.items()):
+        if rng.random() < 0.3:
+            yield released(slot, owner)
 
 
 def parlours(precision):
@@ -315,6 +381,10 @@ def absurd_slots(precision):
         yield placed(9, cell)
         yield from both(q, 9, UNIT_BOX)
         yield from both(q, 5, UNIT_BOX._replace(channels=20))
+        yield from asked(9)
+        yield released(9)
+        yield released(9, usual(9) + 1)
+        yield released(5)
 
 
 def left_over(precision):
@@ -327,6 +397,7 @@ def left_over(precision):
         yield hand_slot(slot, 0, *numbers)
     for slot in (0, 1, 15, 4, 8):
         yield from both(q, slot, UNIT_BOX)
+        yield released(slot)
     yield placed(4, g)
     yield from both(q, 4, whole_region(q, g))
     yield placed(0, Rectangle(4, 0, 2, 4))
@@ -342,6 +413,75 @@ def left_over(precision):
         yield boxed(op, q, slot, Box(3, 1, 1, 9, 1, 2))
     yield placed(8, Rectangle(1, 1, 1, 1))
     yield placed(8, Rectangle(1, 3, 1, 1))
+    # two slots hold the same room: a release through one clears it for both
+    yield released(2)
+    yield boxed(READ, q, 4, whole_region(q, g))
+    yield released(4)
+
+
+def owners(precision):
+    """Ids put in by hand that are none, and wrong ids for every call; then those of the regions."""
+    q = layout(4, 3, 18, precision, 1, 1, 32)
+    g = Rectangle(1, 0, 2, 3)
+    yield begin(q, 9)
+    yield placed(6, g, 7)
+    for owner in NO_IDS:
+        yield hand_slot(2, 1, 0, 0, 1, 2, owner=owner)
+        for given in (owner, 7, owner % (ID_MAX + 1)):
+            yield from both(q, 2, UNIT_BOX, owner=given)
+            yield from asked(2, owner=given)
+            yield released(2, given)
+        yield from both(q, 6, whole_region(q, g), owner=owner)
+        yield from asked(6, 17, 2, 1, owner=owner)
+        yield released(6, owner)
+        yield placed(6, g, owner)
+        yield placed(3, Rectangle(3, 0, 1, 1), owner)
+    for owner in (6, 8, 65543):
+        yield from both(q, 6, whole_region(q, g), owner=owner)
+        yield from both(q, 6, whole_region(q, g)._replace(rows=4), owner=owner)
+        yield from asked(6, 18, 0, 0, owner=owner)
+        yield released(6, owner)
+    yield from asked(6, 17, 2, 1, owner=7)
+    yield from asked(6, 17, 3, 1, owner=7)
+    yield from both(q, 6, whole_region(q, g), owner=7)
+    yield released(6, 7)
+    yield from asked(6, owner=7)
+    yield placed(6, g, 8)
+    yield boxed(READ, q, 6, whole_region(q, g), owner=8)
+
+
+def leavings(precision):
+    """Regions of one row, one column, to each edge and over several surfaces, released one by one."""
+    for q in (layout(6, 5, 33, precision, 1, 2, 32), layout(5, 4, 1, precision, 0, 1, 0),
+              layout(7, 3, 16, precision, 2, 0, 64)):
+        rectangles = (Rectangle(0, 0, 1, q.height - 1), Rectangle(1, 0, q.width - 1, 1),
+                      Rectangle(q.width - 2, 1, 2, q.height - 1), Rectangle(1, 1, q.width - 3, 1),
+                      Rectangle(0, q.height - 1, q.width - 2, 1))
+        yield begin(q, 70)
+        for slot, g in enumerate(rectangles):
+            yield placed(slot, g)
+        for slot, g in enumerate(rectangles):
+            yield released(slot)
+            yield released(slot)
+            for other, h in list(enumerate(rectangles))[slot + 1:]:
+                yield boxed(READ, q, other, whole_region(q, h))
+            yield placed(slot, g, ID_MAX)
+            yield boxed(READ, q, slot, whole_region(q, g), owner=ID_MAX)
+            yield boxed(EDIT, q, slot, whole_region(q, g), owner=ID_MAX)
+
+
+def wide(precision):
+    """Regions of about 64 and 128 columns, two rows and two channels, released."""
+    q = layout(131, 3, 2, precision, precision, 0, 32)
+    for column, columns in ((0, 63), (0, 64), (67, 64), (1, 65), (3, 127), (3, 128), (1, 129), (0, 130), (0, 131)):
+        g = Rectangle(column, 1, columns, 2)
+        yield begin(q)
+        yield placed(9, g)
+        yield placed(10, Rectangle(0, 0, 131, 1))
+        yield released(9)
+        yield placed(11, Rectangle(0, 1, 131, 2))
+        yield boxed(READ, q, 11, whole_region(q, Rectangle(0, 1, 131, 2)))
+        yield released(10)
 
 
 def overlapping(precision):
@@ -355,7 +495,10 @@ def overlapping(precision):
         yield hand_slot(slot, 1, *g)
     yield hand_slot(3, 1, 6, 4, 3, 2)
     yield from both(q, 3, UNIT_BOX)
-    yield from calls(rng, q, regions, 32)
+    yield from calls(rng, q, {n: Seat(usual(n), g) for n, g in regions.items()}, 32, leaves=False)
+    yield released(6)
+    for slot, g in regions.items():
+        yield boxed(READ, q, slot, whole_region(q, g))
 
 
 LAYOUT_FAULTS = {1: ({"width": 0}, {"height": 8193}, {"channels": U32_MAX}), 2: ({"precision": 3},),
@@ -375,9 +518,12 @@ def hand_layouts(precision):
             yield hand_layout(q._replace(**changes))
             yield placed(0, Rectangle(0, 0, 1, 1))
             yield from both(q, 2, box)
+            yield released(2)
         yield hand_layout(q._replace(**faults[precision % len(faults)]))
-        yield placed(16, Rectangle(0, 0, 0, 0))
+        yield placed(16, Rectangle(0, 0, 0, 0), 0)
         yield from both(q, 3, box._replace(rows=0), n=3, fault_index=1, fault_value=0)
+        yield from asked(2, owner=0)
+        yield released(16, 0)
     for changes in ({"precision": 3, "start": 1, "channels": 0}, {"precision": 9, "line": 33},
                     {"start": 1, "surface": 1}):
         yield hand_layout(q._replace(**changes))
@@ -398,6 +544,9 @@ def hand_layouts(precision):
         yield from both(longer, 2, UNIT_BOX, n=2)
         yield boxed(EDIT, longer, 2, UNIT_BOX, fault_index=0, fault_value=0)
         yield from both(longer, 2, UNIT_BOX._replace(w=3))
+        yield from asked(2)
+        yield released(2)
+        yield released(2, 0)
     # the last layout that the buffer holds, then others over the same bytes
     for other in (q._replace(start=96), *third((
             q._replace(start=0), q._replace(line=192, surface=768), layout(3, 4, 19, precision),
@@ -457,8 +606,8 @@ def int8_edges(precision):
 
 # --- the list ---
 
-SESSIONS = (parlours, patchworks, touching, absurd_slots, left_over, overlapping, hand_layouts,
-            refused_begins, int8_edges)
+SESSIONS = (parlours, patchworks, touching, absurd_slots, left_over, owners, leavings, wide, overlapping,
+            hand_layouts, refused_begins, int8_edges)
 
 
 def all_cases():

@@ -1,19 +1,19 @@
 """The sheet program: lines of records in, a row for each line out.
 
-Renders the scope paper's section "The sheet program", and of "Refusal numbers"
-the code 24. Input is bytes; a row has the line's number, counted from 1, the
+Renders the scope paper's section "The sheet program", of "Refusal numbers" the
+code 24, and change request K1's records. Input is bytes; a row has the line's number, counted from 1, the
 refusal code or 0, and the value, which is 0 if the line is refused.
 
-A frame, stall or cell is here the record of that word alone; what it names is a
-cube layout, a region or an element, judged by the rules of cube.py and
-regions.py. No buffer is at hand, so there is no check 5.
+A frame, stall, cell or leave is here the record of that word alone; what it names
+is a cube layout, a region or an element, judged by the rules of cube.py and
+regions.py. No buffer is at hand, so there is no check 5, and nothing is cleared.
 """
 
 import re
 from collections import namedtuple
 
-from cube import U32_MAX, Box, CubeLayout, element_position, extent
-from regions import Rectangle, area_code, empty_table, moved_box, place, slot_code
+from cube import U32_MAX, CubeLayout, extent
+from regions import EMPTY_SLOT, Rectangle, count, empty_table, place, position, with_slot
 
 Row = namedtuple("Row", "line code value")
 
@@ -21,7 +21,7 @@ HEADER = "line\tanswer\tvalue\n"
 LINE_MAX = 120
 NO_FRAME = 1
 UNREADABLE = 24
-NUMBERS = {b"frame": 7, b"stall": 5, b"cell": 4}
+NUMBERS = {b"frame": 7, b"stall": 6, b"cell": 5, b"leave": 2}
 NUMBER = re.compile(rb"0|[1-9][0-9]*")
 
 
@@ -69,9 +69,12 @@ class Sheet:
             return self.frame(CubeLayout(*numbers))
         if self.table is None:
             return NO_FRAME, 0
+        *rest, owner = numbers
         if word == b"stall":
-            return self.stall(numbers[0], Rectangle(*numbers[1:]))
-        return self.cell(numbers[0], Box(*numbers[1:], 1, 1, 1))
+            return self.stall(rest[0], owner, Rectangle(*rest[1:]))
+        if word == b"cell":
+            return self.cell(rest[0], owner, *rest[1:])
+        return self.leave(rest[0], owner)
 
     def frame(self, q):
         """Takes a layout with empty slots; the value is its extent, without the start."""
@@ -80,19 +83,22 @@ class Sheet:
             self.table = empty_table(q)
         return code, value
 
-    def stall(self, n, g):
+    def stall(self, n, owner, g):
         """Places a region; the value is its number of elements."""
-        code, _, self.table = place(self.table, n, g)
+        code, _, self.table = place(self.table, n, owner, g)
         return code, 0 if code else g.columns * g.rows * self.table.layout.channels
 
-    def cell(self, n, box):
+    def cell(self, n, owner, c, h, w):
         """Asks for an element of a region; the value is the byte where it begins, with the start."""
-        q, slots = self.table
-        code = slot_code(slots, n, True) or area_code(q, slots[n].rectangle, box)
-        if code:
-            return code, 0
-        moved = moved_box(slots[n].rectangle, box)
-        return 0, element_position(q, moved.c, moved.h, moved.w)
+        code, _, value = position(self.table, n, owner, c, h, w)
+        return code, value
+
+    def leave(self, n, owner):
+        """Empties the slot of a region; the value is the number of its elements, which are cleared."""
+        code, _, value = count(self.table, n, owner)
+        if not code:
+            self.table = self.table._replace(slots=with_slot(self.table.slots, n, EMPTY_SLOT))
+        return code, value
 
 
 # --- whole inputs ---

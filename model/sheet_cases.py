@@ -1,8 +1,8 @@
 """The test cases of the sheet program: inputs as bytes.
 
 Renders no rule; the inputs stand at the limits named in the scope paper's "The
-sheet program" and "Refusal numbers", and at the readings of its open points. A
-fault is tried on a sheet that has a frame and a stall before it and asks for a
+sheet program" and "Refusal numbers", in change request K1, and at the readings of
+the open points. A fault is tried on a sheet that has a frame and a stall before it and asks for a
 cell after it, so that what the fault leaves behind shows too.
 """
 
@@ -16,9 +16,12 @@ from regions_cases import over_corner, patchwork
 from sheet import LINE_MAX, Sheet
 
 SESSION = (b"frame\t3\t2\t40\t0\t128\t256\t0\n"
-           b"stall\t0\t0\t0\t2\t2\n"
-           b"stall\t1\t1\t0\t2\t1\n"
-           b"cell\t0\t33\t1\t1\n")
+           b"stall\t0\t0\t0\t2\t2\t7\n"
+           b"stall\t1\t1\t0\t2\t1\t8\n"
+           b"cell\t0\t33\t1\t1\t7\n"
+           b"leave\t0\t8\n"
+           b"leave\t0\t7\n"
+           b"stall\t1\t1\t0\t2\t1\t8\n")
 EXAMPLE = CubeLayout(3, 2, 40, 0, 128, 256, 0)
 RANDOM_SHEETS = 600
 LONG_LINE = 100000
@@ -36,14 +39,19 @@ def frame(q):
     return line(b"frame", *q)
 
 
-def stall(slot, *rectangle):
+def stall(slot, *rectangle, owner=7):
     """The line of a placing."""
-    return line(b"stall", slot, *rectangle)
+    return line(b"stall", slot, *rectangle, owner)
 
 
-def cell(slot, c, h, w):
+def cell(slot, c, h, w, owner=7):
     """The line of an element."""
-    return line(b"cell", slot, c, h, w)
+    return line(b"cell", slot, c, h, w, owner)
+
+
+def leave(slot, owner=7):
+    """The line of a leaving."""
+    return line(b"leave", slot, owner)
 
 
 def sheet(*lines):
@@ -54,6 +62,7 @@ def sheet(*lines):
 FRAME = frame(EXAMPLE)
 STALL = stall(0, 1, 0, 2, 2)
 CELL = cell(0, 33, 1, 1)
+LEAVE = leave(0)
 GOOD = (frame(CubeLayout(2, 3, 33, 1, 96, 288, 64)), stall(1, 0, 0, 1, 1), cell(0, 7, 1, 0))
 
 
@@ -97,8 +106,9 @@ def every_byte():
     for low in range(0, 256, 2):
         parts = []
         for byte in (bytes([low]), bytes([low + 1])):
-            parts += [cell(0, byte, 1, 1), cell(0, 3, 1, b"1" + byte), b"cell" + byte + CELL[5:],
-                      b"cel" + byte + CELL[4:], byte]
+            parts += [cell(0, byte, 1, 1), cell(0, 3, 1, b"1" + byte), cell(0, 3, 1, 1, b"7" + byte),
+                      b"cell" + byte + CELL[5:], b"cel" + byte + CELL[4:], leave(0, byte),
+                      b"leave" + byte + LEAVE[6:], byte]
         yield within(*parts)
 
 
@@ -119,7 +129,7 @@ LIMITS = (b"4294967295", b"4294967296", b"4294967297", b"4294967305", b"42949673
           b"340282366920938463463374607431768211457", b"1" + b"0" * 99, b"9" * 100, b"0" * 100,
           b"0" * 99 + b"1", b"0", b"00", b"000", b"01", b"-0", b"+0", b"1e1", b"1_0", b"1,0", b"1.0",
           b"0b1", b"--1", b"1-")
-RECORDS = (FRAME, stall(3, 0, 1, 1, 1), CELL)
+RECORDS = (FRAME, stall(3, 0, 1, 1, 1), CELL, leave(0, 8), leave(1))
 
 
 def field_numbers():
@@ -136,8 +146,10 @@ def next_to_limits():
     """Sheets that take the greatest number, and refuse the next one as unreadable."""
     for n in (U32_MAX, U32_MAX + 1, 10 * U32_MAX, 10 ** 10, 10 ** 99):
         yield within(stall(n, 0, 0, 1, 1), stall(1, n, 0, 1, 1), cell(n, 0, 0, 0), cell(0, n, 0, 0))
+        yield within(stall(1, 0, 0, 1, 1, owner=n), cell(0, 0, 0, 0, n), leave(n), leave(0, n), leave(n, n))
         yield within(frame(EXAMPLE._replace(surface=n)), frame(EXAMPLE._replace(precision=n)))
-        yield sheet(stall(n, n, n, n, n), cell(n, n, n, n), line(b"frame", *[n] * 7), FRAME, STALL)
+        yield sheet(stall(n, n, n, n, n), cell(n, n, n, n), leave(n, n), line(b"frame", *[n] * 7), FRAME,
+                    STALL)
     yield sheet(FRAME, stall(0, 0, 0, 1, 1), cell(0, 0, 0, 0))
 
 
@@ -180,7 +192,9 @@ def fields_parted_otherwise():
 def words_alone():
     """Words without numbers, tabs alone, and lines that are no records."""
     yield within(b"frame", b"stall", b"cell", b"frame\t", b"stall\t", b"cell\t", b"framestallcell")
-    yield within(b"frame" + b"\t" * 7, b"stall" + b"\t" * 5, b"cell" + b"\t" * 4, b"\t", b"\t" * 4)
+    yield within(b"leave", b"leave\t", b"leave\t\t", b"leaves\t0\t7", b"release\t0\t7", b"leave\t0\t7\t",
+                 b"leave\t0")
+    yield within(b"frame" + b"\t" * 7, b"stall" + b"\t" * 6, b"cell" + b"\t" * 5, b"\t", b"\t" * 4)
     yield within(b"0", b"#", b"quit", b"help", b" ", b"line\tanswer\tvalue", b"1\t0\t480")
 
 
@@ -196,7 +210,8 @@ def of_length(count, word, *numbers):
 def long_lines():
     """Lines of about 120 bytes and of many more; the next line is read as itself."""
     for count in (83, 119, LINE_MAX, LINE_MAX + 1, 122, 127, 128, 129):
-        for numbers in ((b"frame", *EXAMPLE), (b"stall", 3, 0, 1, 1, 1), (b"cell", 0, 33, 1, 1)):
+        for numbers in ((b"frame", *EXAMPLE), (b"stall", 3, 0, 1, 1, 1, 7), (b"cell", 0, 33, 1, 1, 7),
+                        (b"leave", 0, 7)):
             yield sheet(FRAME, STALL, of_length(count, *numbers), *GOOD)
             yield sheet(FRAME, STALL, CELL, of_length(count, *numbers))[:-1]
         yield within(b"0" * count, b"\t" * count, b"\0" * (count - 1))
@@ -216,7 +231,7 @@ def very_long_lines():
     yield sheet(FRAME, STALL, b"a" * LONG_LINE, *GOOD)
     yield sheet(FRAME, STALL, b"\t" * 65536 + CELL, *GOOD)
     yield sheet(b"0" * 8192 + FRAME, FRAME, b"\0" * 4096, CELL, STALL, CELL)
-    yield sheet(FRAME, STALL, CELL, b"cell\t0\t" + b"3" * 5000 + b"\t1\t1")[:-1]
+    yield sheet(FRAME, STALL, CELL, b"cell\t0\t" + b"3" * 5000 + b"\t1\t1\t7")[:-1]
     yield b"\n" * 300 + SESSION
 
 
@@ -230,9 +245,11 @@ REFUSED = (EXAMPLE._replace(width=0), EXAMPLE._replace(height=8193), EXAMPLE._re
 
 def before_a_frame():
     """Records before an accepted frame; a refused frame is none."""
-    early = (stall(0, 0, 0, 1, 1), stall(16, 0, 0, 0, 0), cell(0, 0, 0, 0), cell(U32_MAX, 9999, 9, 9))
+    early = (stall(0, 0, 0, 1, 1), stall(16, 0, 0, 0, 0, owner=0), cell(0, 0, 0, 0),
+             cell(U32_MAX, 9999, 9, 9, 0), leave(0), leave(16, 0))
     yield sheet(*early)
-    yield sheet(*early, b"", b"stall\t0\t0\t0\t1", b"cell\t0\t0\t0\t00", *early, FRAME, *early)
+    yield sheet(*early, b"", b"stall\t0\t0\t0\t1\t7", b"cell\t0\t0\t0\t00\t7", b"leave\t0", *early, FRAME,
+                *early)
     for q in REFUSED:
         yield sheet(frame(q), *early, b"cell", FRAME, CELL, STALL, CELL)
         yield sheet(early[0], frame(q), early[0], early[2], frame(q), early[2])
@@ -245,6 +262,7 @@ def after_a_frame():
     other = CubeLayout(4, 3, 17, 2, 160, 640, 96)
     probes = (stall(0, 0, 0, 1, 1), stall(1, 0, 0, 1, 2), cell(1, 39, 1, 0), CELL, cell(0, 40, 0, 0))
     last = cell(0, 16, 0, 0)
+    yield sheet(FRAME, STALL, LEAVE, FRAME, LEAVE, stall(0, 1, 0, 2, 2, owner=8), CELL, LEAVE, leave(0, 8))
     for q in REFUSED:
         yield within(frame(q), *probes)
         yield sheet(FRAME, STALL, frame(other), frame(q), CELL, stall(0, 3, 2, 1, 1), last, frame(q),
@@ -357,6 +375,38 @@ def cells():
                 cell(1, 0, 0, 0), stall(1, 0, 1, 1, 1), cell(1, 0, 0, 0), cell(0, 0, 0, 0))
 
 
+def owners():
+    """Ids at their limits and past them, another's, and with a second fault of each kind."""
+    no_ids = (0, 65536, 70000, 65543, U32_MAX)
+    for n in (*no_ids, 1, 65535, 8):
+        yield within(stall(1, 0, 0, 1, 1, owner=n), cell(1, 0, 0, 0, n), cell(0, 33, 1, 1, n), leave(0, n),
+                     stall(0, 0, 1, 1, 1, owner=n), stall(16, 0, 1, 1, 1, owner=n),
+                     stall(2, 0, 0, 0, 1, owner=n), stall(2, 1, 0, 1, 1, owner=n), cell(2, 0, 0, 0, n),
+                     cell(16, 0, 0, 0, n), cell(0, 40, 0, 0, n), cell(0, 0, 2, 0, n), leave(2, n),
+                     leave(16, n), leave(1, n), leave(1, n))
+    yield sheet(FRAME, stall(0, 0, 0, 1, 2), stall(1, 1, 0, 1, 2, owner=8), stall(2, 2, 0, 1, 2),
+                *(cell(slot, 0, 0, 0, owner) for slot in range(4) for owner in (7, 8)))
+
+
+def leavings():
+    """Leavings by the owner, by another and twice; the slot and the room are free after them, the others stay."""
+    for slot, owner in ((0, 7), (15, 1), (8, 65535)):
+        seat = stall(slot, 1, 0, 2, 2, owner=owner)
+        yield sheet(FRAME, seat, leave(slot, owner % 9 + 1), leave(slot, owner), leave(slot, owner),
+                    cell(slot, 0, 0, 0, owner), seat, cell(slot, 0, 0, 0, owner), leave(slot, owner))
+        yield sheet(FRAME, seat, stall(1, 0, 0, 2, 1), leave(slot, owner), stall(1, 0, 0, 2, 1),
+                    cell(1, 39, 0, 1), stall(slot, 2, 0, 1, 1, owner=9), cell(slot, 39, 0, 0, owner),
+                    cell(slot, 39, 0, 0, 9), leave(1), leave(slot, 9))
+    base = (frame(ROOM), stall(7, *MIDDLE), *(stall(n + n // 7, *g, owner=n + 1) for n, g in enumerate(AROUND)))
+    yield sheet(*base, *(leave(n + n // 7, n + 1) for n in range(len(AROUND))), cell(7, 2, 1, 2), leave(7),
+                stall(3, 0, 0, 7, 6, owner=3), leave(3, 3))
+    yield sheet(*base, *(part for n, g in enumerate(AROUND) for part in (
+        leave(n + n // 7, n + 1), stall(n + n // 7, *g), cell(n + n // 7, 0, 0, 0))))
+    q = layout(16, 2, 3, 1)
+    yield sheet(frame(q), *(stall(n, n, 0, 1, 2) for n in range(16)), *(leave(n) for n in range(17)),
+                stall(9, 0, 0, 16, 2), leave(9))
+
+
 def past_32_bits():
     """Frames whose extents, positions and counts of elements pass 32 bits."""
     for q in (CubeLayout(1, 1, 8192, 1, 32, 4294967264, 4294967264),
@@ -366,7 +416,7 @@ def past_32_bits():
               CubeLayout(134, 3, 64, 1, 2147479488, 4294967264, 32)):
         last = (q.channels - 1, q.height - 1, q.width - 1)
         yield sheet(frame(q), stall(0, 0, 0, q.width, q.height), cell(0, 0, 0, 0), cell(0, *last),
-                    cell(0, q.channels // 2, 0, q.width // 2), cell(0, q.channels, 0, 0))
+                    cell(0, q.channels // 2, 0, q.width // 2), cell(0, q.channels, 0, 0), LEAVE)
         yield sheet(frame(q), stall(15, q.width - 1, q.height - 1, 1, 1), cell(15, last[0], 0, 0),
                     cell(15, *last))
     two_rows = CubeLayout(1, 2, 1, 0, 4294967264, 4294967264, 0)
@@ -427,25 +477,33 @@ def some_rectangle(rng, q, pieces):
 
 
 def placed_regions(state):
-    """The rectangle of each slot that is placed."""
+    """What each slot has that is placed."""
     slots = state.table.slots if state.table else ()
-    return {n: slot.rectangle for n, slot in enumerate(slots) if slot.placed}
+    return {n: slot for n, slot in enumerate(slots) if slot.placed}
 
 
 def some_stall(rng, q, pieces, regions):
     """A placing, mostly in an empty slot."""
     free = [n for n in range(4) if n not in regions]
     slot = free[0] if free and rng.random() < 0.7 else rng.choice((0, 1, 14, 15, 16, 17))
-    return stall(slot, *some_rectangle(rng, q, pieces))
+    owner = rng.choice((1, 7, 7, 8, 65535) if rng.random() < 0.9 else (0, 65536, U32_MAX))
+    return stall(slot, *some_rectangle(rng, q, pieces), owner=owner)
+
+
+def some_seat(rng, regions):
+    """A slot, mostly one that is placed, and its owner's id, now and then another."""
+    slot = rng.choice(sorted(regions)) if regions and rng.random() < 0.9 else rng.randint(0, 17)
+    owner = regions[slot].owner if slot in regions and rng.random() < 0.9 else rng.choice((0, 1, 7, 8, 65536))
+    return slot, owner
 
 
 def some_cell(rng, q, regions):
     """A cell of a stall or one step past it, now and then in another slot."""
-    slot = rng.choice(sorted(regions)) if regions and rng.random() < 0.9 else rng.randint(0, 17)
-    g = regions.get(slot, Rectangle(0, 0, 1, 1))
+    slot, owner = some_seat(rng, regions)
+    g = regions[slot].rectangle if slot in regions else Rectangle(0, 0, 1, 1)
     inside = rng.random() < 0.7
     c = rng.choice((0, q.channels - 1, rng.randrange(q.channels), q.channels - inside))
-    return cell(slot, c, rng.randint(0, g.rows - inside), rng.randint(0, g.columns - inside))
+    return cell(slot, c, rng.randint(0, g.rows - inside), rng.randint(0, g.columns - inside), owner)
 
 
 def some_line(rng, state, pieces):
@@ -460,6 +518,8 @@ def some_line(rng, state, pieces):
         return frame(wrong_layout(rng, q))
     if kind < 0.4 or (kind < 0.6 and not regions):
         return some_stall(rng, q, pieces, regions)
+    if kind < 0.5:
+        return leave(*some_seat(rng, regions))
     return some_cell(rng, q, regions)
 
 
@@ -484,7 +544,8 @@ def random_sheets():
 
 GROUPS = (line_ends, every_byte, field_numbers, next_to_limits, words, fields_missing_or_extra,
           fields_parted_otherwise, words_alone, long_lines, very_long_lines, before_a_frame,
-          after_a_frame, faults_of_frames, slots, placings, corners, cells, past_32_bits, random_sheets)
+          after_a_frame, faults_of_frames, slots, placings, corners, cells, owners, leavings, past_32_bits,
+          random_sheets)
 
 
 def all_cases():

@@ -1,7 +1,8 @@
 """Asserts the starred cases of the scope paper's "Worked on squared paper".
 
 Beside them stand inputs on which readings of "Cells and cubes", "Stalls",
-"Weights", "Pixels", "Two tables", "The sheet program" and "Refusal numbers" part.
+"Weights", "Pixels", "Two tables", "The sheet program", "Refusal numbers" and of
+change request K1 part.
 Prints nothing if all hold.
 """
 
@@ -16,8 +17,9 @@ from cube import (Box, CubeLayout, box_positions, element_position, extent, pack
 from lut import (EXPONENTIAL, LINEAR, OVERFLOW, PRIORITY, S32_MAX, S32_MIN, UNDERFLOW, X_ONLY,
                  LutSettings, Slope, XSettings, YSettings, linear_value, look, run, run_code, x_value)
 from quantize import quantize
-from regions import (NO_RECTANGLE, Rectangle, RegionTable, Slot, edit, empty_table, place, read,
+from regions import (EMPTY_SLOTS, Rectangle, RegionTable, Slot, count, edit, empty_table, place, read, release,
                      share_position, with_slot)
+from regions import position as region_position
 from weights import WeightLayout
 
 EXAMPLE = CubeLayout(3, 2, 40, 0, 128, 256, 0)
@@ -80,23 +82,23 @@ def boxes():
     assert read_box(EXAMPLE, Box(38, 0, 0, 2, 1, 1), [9, 9], buffer) == (0, 0, [0, 0])
 
 
-def by_hand(n, is_placed, *numbers, q=EXAMPLE):
+def by_hand(n, is_placed, *numbers, q=EXAMPLE, owner=7):
     """A table with one slot filled by hand."""
     table = empty_table(q)
-    return table._replace(slots=with_slot(table.slots, n, Slot(is_placed, Rectangle(*numbers))))
+    return table._replace(slots=with_slot(table.slots, n, Slot(is_placed, owner, Rectangle(*numbers))))
 
 
 def placings():
     """The paper's sheet example; overlap has no width and no clipping; empty slots do not matter."""
     one = Rectangle(0, 0, 1, 1)
-    code, _, table = place(empty_table(EXAMPLE), 0, Rectangle(0, 0, 2, 2))
-    assert code == 0 and place(table, 1, Rectangle(1, 0, 2, 1)) == (10, 0, table)
-    assert place(table, 0, one)[0] == place(table, 16, one)[0] == 8
-    assert place(table, 1, Rectangle(2, 0, 0, 1))[0] == place(table, 1, Rectangle(2, 0, 2, 1))[0] == 9
-    assert place(by_hand(0, True, 4294967295, 0, 4, 2), 1, one)[0] == 0
-    assert place(by_hand(0, True, 0, 0, 4294967295, 4294967295), 1, one)[0] == 10
-    assert place(by_hand(0, True, 0, 0, 0, 9), 1, one)[0] == 0
-    assert place(by_hand(0, False, 0, 0, 3, 2), 1, one)[0] == 0
+    code, _, table = place(empty_table(EXAMPLE), 0, 7, Rectangle(0, 0, 2, 2))
+    assert code == 0 and place(table, 1, 8, Rectangle(1, 0, 2, 1)) == (10, 0, table)
+    assert place(table, 0, 7, one)[0] == place(table, 16, 7, one)[0] == 8
+    assert place(table, 1, 8, Rectangle(2, 0, 0, 1))[0] == place(table, 1, 8, Rectangle(2, 0, 2, 1))[0] == 9
+    assert place(by_hand(0, True, 4294967295, 0, 4, 2), 1, 8, one)[0] == 0
+    assert place(by_hand(0, True, 0, 0, 4294967295, 4294967295), 1, 8, one)[0] == 10
+    assert place(by_hand(0, True, 0, 0, 0, 9), 1, 8, one)[0] == 0
+    assert place(by_hand(0, False, 0, 0, 3, 2), 1, 8, one)[0] == 0
     sides = [(first, count) for first in range(4) for count in range(4)]
     for (a, b), (c, d), (e, f), (g, h) in product(sides, sides, sides[::3], sides[::3]):
         spots = set(product(range(a, a + b), range(c, c + d)))
@@ -108,23 +110,63 @@ def region_calls():
     """The named region alone is checked, by 9; 1 to 4 come before 8; 5 looks at the whole cube."""
     cell, buffer = Box(0, 0, 0, 1, 1, 1), bytes(480)
     outside = by_hand(3, True, 2, 1, 2, 1)
-    assert edit(outside, 3, cell, [0], buffer)[0] == read(outside, 3, cell, [0], buffer)[0] == 9
-    assert edit(outside, 2, cell, [0], buffer)[0] == read(outside, 16, cell, [0], buffer)[0] == 8
-    bad = RegionTable(EXAMPLE._replace(start=16), (Slot(False, NO_RECTANGLE),) * 16)
-    assert edit(bad, 0, cell, [0], buffer)[0] == read(bad, 0, cell, [0], buffer)[0] == 4
+    assert edit(outside, 3, 7, cell, [0], buffer)[0] == read(outside, 3, 7, cell, [0], buffer)[0] == 9
+    assert edit(outside, 2, 7, cell, [0], buffer)[0] == read(outside, 16, 7, cell, [0], buffer)[0] == 8
+    bad = RegionTable(EXAMPLE._replace(start=16), EMPTY_SLOTS)
+    assert edit(bad, 0, 7, cell, [0], buffer)[0] == read(bad, 0, 7, cell, [0], buffer)[0] == 4
     table = by_hand(5, True, 1, 0, 2, 2)
-    assert edit(table, 5, cell, [0], bytes(479))[0] == read(table, 5, cell, [0], bytes(479))[0] == 5
-    assert edit(table, 5, Box(1, 1, 0, 1, 1, 2), [0, 200], buffer) == (7, 1, buffer)
-    after = edit(table, 5, Box(33, 1, 1, 1, 1, 1), [-2], buffer)[2]
+    assert edit(table, 5, 7, cell, [0], bytes(479))[0] == read(table, 5, 7, cell, [0], bytes(479))[0] == 5
+    assert edit(table, 5, 7, Box(1, 1, 0, 1, 1, 2), [0, 200], buffer) == (7, 1, buffer)
+    after = edit(table, 5, 7, Box(33, 1, 1, 1, 1, 1), [-2], buffer)[2]
     assert [at for at in range(480) if after[at]] == [449] and after[449] == 254
-    assert read(table, 5, Box(33, 1, 0, 1, 1, 2), [9, 9], after) == (0, 0, [0, -2])
+    assert read(table, 5, 7, Box(33, 1, 0, 1, 1, 2), [9, 9], after) == (0, 0, [0, -2])
+
+
+def owner_ids():
+    """25 stands before 8 when placing, else directly after 8; a hand-made id that is none is never right."""
+    cell, buffer, one = Box(0, 0, 0, 1, 1, 1), bytes(480), Rectangle(0, 0, 1, 1)
+    table = by_hand(0, True, 0, 0, 2, 2)
+    for owner in (0, 65536, 70000, 4294967295):
+        assert {place(table, n, owner, g)[0] for n in (0, 1, 16) for g in (one, Rectangle(3, 0, 1, 1))} == {25}
+        assert place(table._replace(layout=EXAMPLE._replace(start=16)), 0, owner, one)[0] == 4
+        own = by_hand(0, True, 0, 0, 2, 2, owner=owner)
+        assert edit(own, 0, owner, cell, [0], buffer)[0] == read(own, 0, owner, cell, [0], buffer)[0] == 25
+        assert release(own, 0, owner, buffer) == (25, 0, own, buffer)
+        assert region_position(own, 0, owner, 0, 0, 0)[0] == count(own, 0, owner)[0] == 25
+    assert place(table, 1, 1, Rectangle(2, 0, 1, 1))[0] == place(table, 1, 65535, Rectangle(2, 0, 1, 1))[0] == 0
+    for n, owner, code in ((1, 0, 8), (16, 8, 8), (0, 8, 25), (0, 0, 25), (0, 7, 9)):
+        past = cell._replace(w=2)
+        assert edit(table, n, owner, past, [], b"")[0] == read(table, n, owner, past, [], b"")[0] == code
+        assert region_position(table, n, owner, 0, 0, 2)[0] == code
+    outside = by_hand(0, True, 2, 0, 2, 2)
+    for n, owner, code in ((1, 0, 8), (0, 8, 25), (0, 7, 9)):
+        assert release(outside, n, owner, b"") == (code, 0, outside, b"")
+        assert count(outside, n, owner)[0] == code
+
+
+def leaving():
+    """A release clears the region's bytes alone and empties its slot; the next owner reads zeros there."""
+    buffer = bytes([238]) * 480
+    table = place(place(empty_table(EXAMPLE), 3, 7, Rectangle(0, 0, 2, 2))[2], 4, 7, Rectangle(2, 0, 1, 2))[2]
+    assert release(table, 3, 8, buffer) == (25, 0, table, buffer)
+    assert release(table, 3, 7, buffer[:479]) == (5, 0, table, buffer[:479])
+    assert count(table, 3, 7) == (0, 0, 160)
+    code, _, after, cleared = release(table, 3, 7, buffer)
+    assert code == 0 and after == place(empty_table(EXAMPLE), 4, 7, Rectangle(2, 0, 1, 2))[2]
+    mine = {element_position(EXAMPLE, c, h, w) for c in range(40) for h in range(2) for w in range(2)}
+    assert len(mine) == 160 and all(b == (0 if at in mine else 238) for at, b in enumerate(cleared))
+    assert release(after, 3, 7, cleared) == (8, 0, after, cleared)
+    _, _, later = place(after, 9, 8, Rectangle(1, 0, 1, 2))
+    assert read(later, 9, 8, Box(0, 0, 0, 40, 2, 1), [5] * 80, cleared) == (0, 0, [0] * 80)
 
 
 def sheet_session():
-    """The paper's session, byte for byte, with and without its last newline."""
-    session = (b"frame\t3\t2\t40\t0\t128\t256\t0\nstall\t0\t0\t0\t2\t2\n"
-               b"stall\t1\t1\t0\t2\t1\ncell\t0\t33\t1\t1\n")
-    printed = "line\tanswer\tvalue\n1\t0\t480\n2\t0\t160\n3\t10\t0\n4\t0\t417\n"
+    """The paper's session with ids and leavings, byte for byte, with and without its last newline."""
+    session = (b"frame\t3\t2\t40\t0\t128\t256\t0\nstall\t0\t0\t0\t2\t2\t7\n"
+               b"stall\t1\t1\t0\t2\t1\t8\ncell\t0\t33\t1\t1\t7\n"
+               b"leave\t0\t8\nleave\t0\t7\nstall\t1\t1\t0\t2\t1\t8\n")
+    printed = ("line\tanswer\tvalue\n1\t0\t480\n2\t0\t160\n3\t10\t0\n4\t0\t417\n"
+               "5\t25\t0\n6\t0\t160\n7\t0\t80\n")
     assert sheet.text(session) == sheet.text(session[:-1]) == printed
     assert sheet.text(b"") == printed[:18]
 
@@ -147,14 +189,28 @@ def sheet_lines():
 def sheet_frames():
     """Before an accepted frame a record is 1 whatever its numbers; a refused frame changes nothing."""
     good, refused = b"frame\t3\t2\t40\t0\t128\t256\t32\n", b"frame\t3\t2\t40\t0\t128\t192\t0\n"
-    stall, cell = b"stall\t15\t0\t0\t2\t2\n", b"cell\t15\t33\t1\t1\n"
-    early = b"stall\t16\t0\t0\t0\t0\ncell\t0\n"
-    assert sheet_answers(early + refused + cell) == [(1, 0), (24, 0), (3, 0), (1, 0)]
+    stall, cell = b"stall\t15\t0\t0\t2\t2\t7\n", b"cell\t15\t33\t1\t1\t7\n"
+    early = b"stall\t16\t0\t0\t0\t0\t0\ncell\t0\nleave\t16\t0\n"
+    assert sheet_answers(early + refused + cell) == [(1, 0), (24, 0), (1, 0), (3, 0), (1, 0)]
     filled = good + stall
     assert sheet_answers(filled) == [(0, 480), (0, 160)]
     assert sheet_answers(filled + refused + stall + cell)[2:] == [(3, 0), (8, 0), (0, 449)]
     assert sheet_answers(filled + good + cell)[2:] == [(0, 480), (8, 0)]
-    assert sheet_answers(filled + b"cell\t15\t40\t0\t0\ncell\t15\t0\t0\t2\n")[2:] == [(9, 0)] * 2
+    assert sheet_answers(filled + b"cell\t15\t40\t0\t0\t7\ncell\t15\t0\t0\t2\t7\n")[2:] == [(9, 0)] * 2
+
+
+def sheet_owners():
+    """Orders: stall 25, 8, 9, 10; cell 8, 25, 9; leave 8, 25, 9. The shapes without the id are 24."""
+    filled = b"frame\t3\t2\t40\t0\t128\t256\t0\nstall\t1\t0\t0\t2\t2\t7\n"
+    for lines, codes in (
+            (b"stall\t1\t9\t9\t0\t0\t0\nstall\t1\t9\t9\t0\t0\t7\nstall\t2\t0\t0\t1\t1\t65536\n", [25, 8, 25]),
+            (b"cell\t2\t0\t0\t9\t0\ncell\t1\t0\t0\t9\t8\ncell\t1\t0\t0\t9\t7\n", [8, 25, 9]),
+            (b"leave\t2\t0\nleave\t1\t8\nleave\t1\t0\nleave\t16\t7\n", [8, 25, 25, 8]),
+            (b"stall\t2\t2\t0\t1\t1\ncell\t1\t0\t0\t0\nleave\t1\nleave\t1\t7\t0\nleave\t1\t07\n", [24] * 5)):
+        assert sheet_answers(filled + lines)[2:] == [(code, 0) for code in codes]
+    left = filled + b"leave\t1\t7\n"
+    assert sheet_answers(left + b"leave\t1\t7\ncell\t1\t0\t0\t0\t7\n")[2:] == [(0, 160), (8, 0), (8, 0)]
+    assert sheet_answers(left + b"stall\t1\t1\t0\t2\t1\t8\ncell\t1\t0\t0\t0\t8\n")[3:] == [(0, 80), (0, 32)]
 
 
 def starred_weights():
@@ -299,9 +355,12 @@ if __name__ == "__main__":
     boxes()
     placings()
     region_calls()
+    owner_ids()
+    leaving()
     sheet_session()
     sheet_lines()
     sheet_frames()
+    sheet_owners()
     starred_weights()
     weight_order()
     lent_weights()

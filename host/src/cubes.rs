@@ -58,7 +58,8 @@ impl Table {
         Table { words: made([u32::MAX; Table::WORDS], |words| unsafe { raw::olsketina_regions_empty(&layout.into(), words) }) }
     }
 
-    /// A table of any words: those of its layout, then five for each slot: placed (0 is empty, any other is placed), then the region's.
+    /// A table of any words: those of its layout, then six for each slot: placed (0 is empty, any other is placed), the owner's id, then the
+    /// region's.
     #[must_use]
     pub fn from_words(words: [u32; Table::WORDS]) -> Table {
         Table { words }
@@ -74,33 +75,50 @@ impl Table {
         Layout::from(std::array::from_fn(|at| self.words[at]))
     }
 
-    /// The region in a slot, where there is one.
+    /// The region in a slot and its owner's id, where there is one.
     #[must_use]
-    pub fn region(&self, slot: u32) -> Option<Region> {
+    pub fn region(&self, slot: u32) -> Option<(u32, Region)> {
         let slot = self.words[raw::LAYOUT_WORDS..].chunks(raw::SLOT_WORDS).nth(slot as usize)?;
-        (slot[0] != 0).then(|| [slot[1], slot[2], slot[3], slot[4]].into())
+        (slot[0] != 0).then(|| (slot[1], [slot[2], slot[3], slot[4], slot[5]].into()))
     }
 
-    /// Places a region in an empty slot.
-    pub fn place(&mut self, slot: u32, region: Region) -> Answer<()> {
+    /// Places a region of an owner in an empty slot.
+    pub fn place(&mut self, slot: u32, id: u32, region: Region) -> Answer<()> {
         let Region { column, row, columns, rows } = region;
-        answered(|fault| unsafe { raw::olsketina_regions_place(&mut self.words, slot, column, row, columns, rows, fault) })
+        answered(|fault| unsafe { raw::olsketina_regions_place(&mut self.words, slot, id, column, row, columns, rows, fault) })
     }
 
-    /// Writes the elements of a box, counted from the corner of the region in a slot, and no other byte.
-    pub fn edit(&self, slot: u32, part: ElementBox, elements: &[i16], buffer: &mut [u8]) -> Answer<()> {
+    /// Writes the elements of a box, counted from the corner of the owner's region in a slot, and no other byte.
+    pub fn edit(&self, slot: u32, id: u32, part: ElementBox, elements: &[i16], buffer: &mut [u8]) -> Answer<()> {
         let (table, part) = (&self.words, part.into());
-        lent(elements, buffer, |from, m, to, n, fault| unsafe { raw::olsketina_regions_edit(table, slot, &part, from, m, to, n, fault) })
+        lent(elements, buffer, |from, m, to, n, fault| unsafe {
+            raw::olsketina_regions_edit(table, slot, id, &part, from, m, to, n, fault)
+        })
     }
 
-    /// Reads the elements of a box, counted from the corner of the region in a slot.
-    pub fn read(&self, slot: u32, part: ElementBox, buffer: &[u8], elements: &mut [i16]) -> Answer<()> {
+    /// Reads the elements of a box, counted from the corner of the owner's region in a slot.
+    pub fn read(&self, slot: u32, id: u32, part: ElementBox, buffer: &[u8], elements: &mut [i16]) -> Answer<()> {
         let (table, part) = (&self.words, part.into());
-        lent(buffer, elements, |from, m, to, n, fault| unsafe { raw::olsketina_regions_read(table, slot, &part, from, m, to, n, fault) })
+        lent(buffer, elements, |from, m, to, n, fault| unsafe {
+            raw::olsketina_regions_read(table, slot, id, &part, from, m, to, n, fault)
+        })
     }
 
-    /// The byte at which an element begins, counted from the corner of the region in a slot.
-    pub fn position(&self, slot: u32, channel: u32, row: u32, column: u32) -> Answer<u64> {
-        valued(u64::MAX, |value, fault| unsafe { raw::olsketina_regions_position(&self.words, slot, channel, row, column, value, fault) })
+    /// Releases the owner's region in a slot: its elements become 0, and the slot is empty.
+    pub fn release(&mut self, slot: u32, id: u32, buffer: &mut [u8]) -> Answer<()> {
+        let (to, n) = (buffer.as_mut_ptr(), buffer.len());
+        answered(|fault| unsafe { raw::olsketina_regions_release(&mut self.words, slot, id, to, n, fault) })
+    }
+
+    /// The byte at which an element begins, counted from the corner of the owner's region in a slot.
+    pub fn position(&self, slot: u32, id: u32, channel: u32, row: u32, column: u32) -> Answer<u64> {
+        valued(u64::MAX, |value, fault| unsafe {
+            raw::olsketina_regions_position(&self.words, slot, id, channel, row, column, value, fault)
+        })
+    }
+
+    /// How many elements the owner's region in a slot has.
+    pub fn count(&self, slot: u32, id: u32) -> Answer<u64> {
+        valued(u64::MAX, |value, fault| unsafe { raw::olsketina_regions_count(&self.words, slot, id, value, fault) })
     }
 }

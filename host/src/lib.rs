@@ -9,11 +9,18 @@
 //! let mut buffer = vec![0; frame.extent()? as usize];
 //! frame.pack(&[1; 240], &mut buffer)?;
 //! let mut desk = Table::empty(frame);
-//! desk.place(0, Region { column: 0, row: 0, columns: 2, rows: 2 })?;
-//! desk.edit(0, [33, 1, 0, 1, 1, 2].into(), &[7, 8], &mut buffer)?;
-//! assert_eq!(buffer[desk.position(0, 33, 1, 1)? as usize], 8);
-//! let refusal = desk.place(1, Region { column: 1, row: 0, columns: 2, rows: 1 }).unwrap_err();
+//! let (ada, ben) = (1815, 1791);
+//! desk.place(0, ada, Region { column: 0, row: 0, columns: 2, rows: 2 })?;
+//! desk.edit(0, ada, [33, 1, 0, 1, 1, 2].into(), &[7, 8], &mut buffer)?;
+//! let byte = desk.position(0, ada, 33, 1, 1)? as usize;
+//! assert_eq!(buffer[byte], 8);
+//! let refusal = desk.place(1, ben, Region { column: 1, row: 0, columns: 2, rows: 1 }).unwrap_err();
 //! assert_eq!(refusal.to_string(), "refused, 10: the region overlaps one that is placed");
+//! let refusal = desk.release(0, ben, &mut buffer).unwrap_err();
+//! assert_eq!(refusal.to_string(), "refused, 25: the owner's id is not 1 to 65535, or not that of the region");
+//! desk.release(0, ada, &mut buffer)?;
+//! assert_eq!(buffer[byte], 0);
+//! desk.place(1, ben, Region { column: 1, row: 0, columns: 2, rows: 1 })?;
 //! # Ok::<(), Refusal>(())
 //! ```
 //!

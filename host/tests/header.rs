@@ -67,7 +67,7 @@ fn c_file(exports: &[Exports], lengths: &[(String, String)]) -> String {
         let result = function.result.as_deref().map_or("void", c_number);
         text += &format!("{result} (*check_{name})({types}) = {name};\n");
     }
-    let slot = [&["placed"], Region::WORDS].concat();
+    let slot = [&["placed", "owner"], Region::WORDS].concat();
     let words: [(&str, &[&str]); 10] = [
         ("LAYOUT", Layout::WORDS),
         ("BOX", ElementBox::WORDS),
@@ -193,6 +193,7 @@ fn a_wrong_header_fails() {
         ("an extra name", "#ifdef __cplusplus\n}", "void olsketina_more(void);\n#ifdef __cplusplus\n}", "alone"),
         ("another word count", "#define OLSKETINA_LAYOUT_WORDS 7", "#define OLSKETINA_LAYOUT_WORDS 8", "static assertion"),
         ("exchanged words", "#define OLSKETINA_IMAGE_START 6", "#define OLSKETINA_IMAGE_START 7", "static assertion"),
+        ("a slot without its owner", "#define OLSKETINA_SLOT_WORDS 6", "#define OLSKETINA_SLOT_WORDS 5", "static assertion"),
         ("another number of slots", "#define OLSKETINA_SLOTS 16", "#define OLSKETINA_SLOTS 15", "static assertion"),
     ];
     for (name, old, new, reason) in wrong {

@@ -90,14 +90,15 @@ fn on_packed(command: u32, n: [u64; 16], elements: &mut [i16], buffer: &mut [u8]
     }
 }
 
-// The table with numbers 1 to 5, `placed w0 h0 w h`, put in the slot of number 0 by hand; a slot above 15 changes nothing.
+// The table with numbers 1 to 6, `placed id w0 h0 w h`, put in the slot of number 0 by hand; a slot above 15 changes nothing.
 fn with_slot(n: [u64; 16], table: RegionTable) -> RegionTable {
     let i = natural(n, 0) as usize;
     let mut t = table;
     if i < 16 {
         t.slots[i] = regions::Region {
             placed: natural(n, 1) != 0,
-            rectangle: rectangle_at(n, 2),
+            owner: natural(n, 2),
+            rectangle: rectangle_at(n, 3),
         };
     }
     t
@@ -118,7 +119,7 @@ fn made(command: u32, n: [u64; 16], table: RegionTable) -> RegionTable {
 // The calls from 29 to 33, which look at no list: `desk`, `place`, by hand, `pixel setting`. Prints the answer; the table after it.
 pub fn call_apart(line: u64, command: u32, n: [u64; 16], table: RegionTable) -> RegionTable {
     let outcome = match command {
-        30 => regions_calls::place(table, natural(n, 0), rectangle_at(n, 1)),
+        30 => regions_calls::place(table, natural(n, 0), natural(n, 1), rectangle_at(n, 2)),
         33 => Outcome {
             answer: pixels_calls::setting(pixel_setting(n)),
             table: table,
@@ -134,7 +135,7 @@ pub fn call_apart(line: u64, command: u32, n: [u64; 16], table: RegionTable) -> 
     outcome.table
 }
 
-// The calls from 21 to 28, on elements and buffer.
+// The calls from 21 to 28, on elements and buffer, and `release`, on the buffer.
 pub fn call(
     command: u32,
     n: [u64; 16],
@@ -143,10 +144,27 @@ pub fn call(
     buffer: &mut [u8],
 ) -> Outcome {
     if command == 24 {
-        return regions_calls::edit(table, natural(n, 0), box_at(n, 1), elements, buffer);
+        return regions_calls::edit(
+            table,
+            natural(n, 0),
+            natural(n, 1),
+            box_at(n, 2),
+            elements,
+            buffer,
+        );
     }
     if command == 28 {
-        return regions_calls::read(table, natural(n, 0), box_at(n, 1), buffer, elements);
+        return regions_calls::read(
+            table,
+            natural(n, 0),
+            natural(n, 1),
+            box_at(n, 2),
+            buffer,
+            elements,
+        );
+    }
+    if command == 49 {
+        return regions_calls::release(table, natural(n, 0), natural(n, 1), buffer);
     }
     Outcome {
         answer: on_packed(command, n, elements, buffer),
@@ -208,6 +226,29 @@ fn convert(n: [u64; 16]) -> Quantized {
         natural(n, 3),
         natural(n, 4),
     )
+}
+
+// `stall position`, of numbers `slot id c h w`, and `stall count`, of `slot id`.
+fn of_region(command: u32, n: [u64; 16], table: RegionTable) -> Quantity {
+    let slot = natural(n, 0);
+    let id = natural(n, 1);
+    if command == 50 {
+        return regions_calls::position(
+            table,
+            slot,
+            id,
+            natural(n, 2),
+            natural(n, 3),
+            natural(n, 4),
+        );
+    }
+    regions_calls::count(table, slot, id)
+}
+
+// The answer of a question about a region, with its value.
+pub fn print_of_region(line: u64, command: u32, n: [u64; 16], table: RegionTable) {
+    print_quantity(line, of_region(command, n, table));
+    end_line();
 }
 
 // The answer of a command from 34 to 39, or of `whose`, with its value: positions, extent, conversion, curve entries, a byte's owner.

@@ -5,16 +5,17 @@
 //     p  a position, a natural number below 2^61 - 2^31
 //     e  an element, a signed number of 16 bits   b  a byte, two hexadecimal digits
 //     E, B, S  any number of elements, bytes, samples (signed numbers of 32 bits)
-const TABLE: [u8; 716] = *b"elements:E\nbuffer:B\nsamples:S\ncells:ne\nfill:nb\n\
+const TABLE: [u8; 767] = *b"elements:E\nbuffer:B\nsamples:S\ncells:ne\nfill:nb\n\
 draw elements:nnens\ndraw buffer:nn\ndraw samples:nnsn\nmore elements:nnens\nmore buffer:nn\nmore samples:nnsn\ndraw curves:n\n\
 set element:ne\nprint all:\nprint sums:\n\
 show elements:\nshow buffer:\nshow samples:\nsum elements:\nsum buffer:\nsum samples:\n\
-pack:nnnnnnn\nwrite:nnnnnnnnnnnnn\npack_weights:nnnnn\nedit:nnnnnnn\n\
-unpack:nnnnnnn\nread:nnnnnnnnnnnnn\nunpack_weights:nnnnn\nlook:nnnnnnn\n\
-desk:nnnnnnn\nplace:nnnnn\nhand slot:nnnnnn\nhand layout:nnnnnnn\n\
+pack:nnnnnnn\nwrite:nnnnnnnnnnnnn\npack_weights:nnnnn\nedit:nnnnnnnn\n\
+unpack:nnnnnnn\nread:nnnnnnnnnnnnn\nunpack_weights:nnnnn\nlook:nnnnnnnn\n\
+desk:nnnnnnn\nplace:nnnnnn\nhand slot:nnnnnnn\nhand layout:nnnnnnn\n\
 pixel setting:nnnnnnnn\n\
 position:nnnnnnnnnn\nextent:nnnnnnn\npixel position:nnnnnnnnnn\nconvert:seenn\ncurve x:n\ncurve y:n\n\
-x linear:ssseses\nx exponential:ssseses\ny:ssseses\nbits:nnn\ncounters:nnnnn\nready:snnn\nlookup:nnn\nsheet:\nwhose:nnnnnnnp\n";
+x linear:ssseses\nx exponential:ssseses\ny:ssseses\nbits:nnn\ncounters:nnnnn\nready:snnn\nlookup:nnn\nsheet:\nwhose:nnnnnnnp\n\
+release:nn\nstall position:nnnnn\nstall count:nn\n";
 
 // The row of no command.
 pub const UNKNOWN: u32 = 255;
@@ -27,7 +28,7 @@ pub struct Found {
 
 // A byte of the table; from its end on, a newline.
 pub fn table_byte(i: usize) -> u8 {
-    if i < 716 { TABLE[i] } else { b'\n' }
+    if i < 767 { TABLE[i] } else { b'\n' }
 }
 
 // How many letters of a row are those of the name, after the letter c; 25 once the row has another name.
@@ -56,7 +57,7 @@ pub fn find(name: [u8; 24], length: usize) -> Found {
     let mut row = 0;
     let mut matched = 0;
     let mut i = 0;
-    while i < 716 {
+    while i < 767 {
         let c = table_byte(i);
         if c == b':' && matched == length {
             return Found {
@@ -88,6 +89,7 @@ pub fn sets(command: u32) -> u32 {
         43 => 64,
         44 | 46 => 128,
         45 => 112,
+        49 => 10,
         UNKNOWN => 255,
         _ => 0,
     }
@@ -100,8 +102,8 @@ pub fn uses(command: u32) -> u32 {
         9 | 16 | 19 | 47 => 2,
         10 | 17 | 20 => 4,
         21..=23 | 25..=27 => 3,
-        24 | 28 => 11,
-        30..=32 => 8,
+        24 | 28 | 49 => 11,
+        30..=32 | 50..=51 => 8,
         45 => 112,
         46 => 245,
         _ => 0,

@@ -111,7 +111,11 @@ fn call(state: State, elements: &mut [i16], buffer: &mut [u8], samples: &[i32]) 
     let answer = outcome.answer;
     let table = outcome.table;
     print::print_answer(line.number, answer);
-    let list = if line.command < 25 { 1 } else { 0 };
+    let list = if line.command < 25 || line.command == 49 {
+        1
+    } else {
+        0
+    };
     lists::tell_left(list, state.sums, elements, buffer, samples);
     let mut s = state;
     s.table = table;
@@ -168,6 +172,7 @@ fn run_apart(state: State) -> State {
         14 => s.sums = true,
         29..=33 => s.table = calls::call_apart(line.number, command, numbers, table),
         34..=39 | 48 => calls::print_value(line.number, command, numbers),
+        50..=51 => calls::print_of_region(line.number, command, numbers, table),
         _ => s = lookup::set(state),
     }
     s
@@ -179,7 +184,7 @@ fn run_made(state: State, elements: &mut [i16], buffer: &mut [u8], samples: &mut
     let command = line.command;
     match command {
         0..=11 => lend(state, elements, buffer, samples),
-        13..=14 | 29..=45 | 48 => run_apart(state),
+        13..=14 | 29..=45 | 48 | 50..=51 => run_apart(state),
         _ => run_on(state, elements, buffer, samples),
     }
 }

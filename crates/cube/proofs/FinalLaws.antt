@@ -1,7 +1,8 @@
 -- What the calls' loops come to in the terms of the promises: packing, unpacking, and writing and reading a box. Assumes nothing.
---     written, was-read, packed-whole, unpacked-whole     accepted calls
---     write-kept, read-kept, pack-kept, unpack-kept       refused calls
-use Prim.Native.Nat.{ℕ, _*_, _%_}
+--     write-valid, write-ready, raw-written                            what an accepted writing gives to the loops, and they to it
+--     written, was-cleared, was-read, packed-whole, unpacked-whole     accepted calls
+--     write-kept, clear-kept, read-kept, pack-kept, unpack-kept        refused calls
+use Prim.Native.Nat.{ℕ, _+_, _-_, _*_, _%_, _≤_}
 use native.Mathlib.Omega.{arith}
 use mathlib.Core.Path.{_≡_, refl, sym, ap, _∙_}
 use mathlib.Core.Bool.{Bool, true, false}
@@ -17,23 +18,48 @@ use Rattle.layout.specs.declared.ElementBox.{ElementBox}
 use Rattle.layout.specs.Geometry.{sizeOf, surfaces}
 use Rattle.layout.specs.Owners.{padding, owner}
 use Rattle.layout.specs.Boxes.{wholeBox}
-use Rattle.layout.specs.Contents.{packed, edited, boxElements, unpacked}
-use Rattle.layout.specs.Calls.{packBuffer, unpackElements, writeBoxAnswer, writeBoxBuffer, readBoxAnswer, readBoxElements}
+use Rattle.layout.specs.Contents.{packed, edited, zerosOf, boxElements, unpacked}
+use Rattle.layout.specs.Calls.{packBuffer, unpackElements, writeBoxAnswer, writeBoxBuffer, clearBoxAnswer, clearBoxBuffer, readBoxAnswer, readBoxElements}
 use Rattle.layout.proofs.ContentLaws.{packed-by-edit}
 use Rattle.layout.proofs.Valid.{Valid}
 use Rattle.layout.proofs.Formulas.{padding-exactly}
-use Rattle.layout.proofs.CallLaws.{admitted, write-admitted, pack-whole, unpack-whole}
-use Rattle.cube.specs.Steps.{boxWritten}
+use Rattle.layout.proofs.CallLaws.{Admitted, admitted, admit-clear, write-admitted, pack-whole, unpack-whole}
+use Rattle.cube.specs.Steps.{runIndex, gathered, boxWritten}
+use Rattle.cube.proofs.RunLaws.{box-enough}
+use Rattle.cube.proofs.GatherLaws.{gathered-raw}
 
 -- ---- writing a box
 module _ (q : CubeLayout) (box : ElementBox) (xs : List ℤ) (before : List ℕ) where
-  pub written : {after : List ℕ} → writeBoxAnswer q box xs (length before) ≡ Accepted → after ≡ boxWritten q box false xs before → after ≡ writeBoxBuffer q box xs before
-  unfolding writeBoxBuffer boxWritten
-  written a e = e ∙ sym (leaves-done (edited q box xs before) before a)
+  module _ (a : writeBoxAnswer q box xs (length before) ≡ Accepted) where
+    pub write-valid : Admitted q box (length xs) (length before)
+    write-valid = admitted q box (length xs) (length before) (write-admitted q box xs (length before) a)
+
+    -- what the loops ask for: room, and elements for every run
+    pub write-ready : (clearBoxAnswer q box (length before) ≡ Accepted) × (runIndex box (box .channels - 1) (box .rows - 1) + box .columns ≤ length xs)
+    write-ready =
+        (admit-clear q box (length before) (length xs) (write-admitted q box xs (length before) a), box-enough q box (write-valid .inside) (length xs) (write-valid .count))
+
+    -- the elements in raw order are the caller's
+    pub raw-written : (pad : Bool) → boxWritten q box pad (gathered box (box .rows * box .columns) (box .columns) xs) before ≡ boxWritten q box pad xs before
+    raw-written pad = ap (λ (ys : List ℤ). boxWritten q box pad ys before) (gathered-raw q box (write-valid .inside) xs (write-valid .count))
+
+    pub written : {after : List ℕ} → after ≡ boxWritten q box false xs before → after ≡ writeBoxBuffer q box xs before
+    unfolding writeBoxBuffer boxWritten
+    written e = e ∙ sym (leaves-done (edited q box xs before) before a)
 
   pub write-kept : {r : Refusal} {i : ℕ} → writeBoxAnswer q box xs (length before) ≡ Refused r i → before ≡ writeBoxBuffer q box xs before
   unfolding writeBoxBuffer
   write-kept a = sym (leaves-before (edited q box xs before) before a)
+
+-- ---- clearing a box
+module _ (q : CubeLayout) (box : ElementBox) (before : List ℕ) where
+  pub was-cleared : {after : List ℕ} → clearBoxAnswer q box (length before) ≡ Accepted → after ≡ edited q box (zerosOf box) before → after ≡ clearBoxBuffer q box before
+  unfolding clearBoxBuffer
+  was-cleared a e = e ∙ sym (leaves-done (edited q box (zerosOf box) before) before a)
+
+  pub clear-kept : {r : Refusal} {i : ℕ} → clearBoxAnswer q box (length before) ≡ Refused r i → before ≡ clearBoxBuffer q box before
+  unfolding clearBoxBuffer
+  clear-kept a = sym (leaves-before (edited q box (zerosOf box) before) before a)
 
 -- ---- reading a box
 module _ (q : CubeLayout) (box : ElementBox) (buf : List ℕ) (before : List ℤ) where
@@ -57,7 +83,7 @@ module _ (q : CubeLayout) (raw : List ℤ) (before : List ℕ) where
   unfolding packBuffer boxWritten
   packed-whole true a f e = e ∙ sym (leaves-done (packed q raw before) before (pack-whole q raw (length before) ∙ a))
   packed-whole false a f e =
-      let ok = admitted q (wholeBox q) (length raw) (length before) (write-admitted q (wholeBox q) raw (length before) a) .layout in
+      let ok = write-valid q (wholeBox q) raw before a .layout in
       e
       ∙ packed-by-edit q ok raw before before refl (λ p o. refl) (λ p h o. absurd (no-padding ok (f refl) p o))
       ∙ sym (leaves-done (packed q raw before) before (pack-whole q raw (length before) ∙ a))

@@ -22,8 +22,9 @@ use Rattle.layout.proofs.Valid.{Valid}
 use Rattle.layout.proofs.BoxLaws.{BoxValid, InBox, whole-valid}
 use Rattle.layout.proofs.ContentLaws.{edited-element, edited-reached, packed-length, packed-outside, packed-padding, packed-by-edit}
 use Rattle.layout.proofs.Formulas.{PaddingByte, padding-exactly}
-use Rattle.cube.specs.Steps.{runIndex, runPosition, boxWritten}
+use Rattle.cube.specs.Steps.{runFrom, runIndex, runPosition, gathered, boxWritten}
 use Rattle.cube.proofs.RunLaws.{run-in, run-index, run-position, run-cube, run-room}
+use Rattle.cube.proofs.GatherLaws.{gathered-run}
 
 -- channel c of the box's row k has its bytes, and with the last channel the row's padding
 pub record Reached (q : CubeLayout) (box : ElementBox) (pad : Bool) (goal after : List ℕ) (c k : ℕ) : Type 0 where
@@ -38,9 +39,9 @@ reached-keep q box pad goal near c k r =
       pads = λ t l p x h. reached-kept 0 goal near p (r .pads t l p x h);
     }
 
-pub record Goal (q : CubeLayout) (box : ElementBox) (pad : Bool) (xs : List ℤ) (before goal : List ℕ) : Type 0 where
+pub record Goal (q : CubeLayout) (box : ElementBox) (pad : Bool) (plane line : ℕ) (xs : List ℤ) (before goal : List ℕ) : Type 0 where
   pub held : (c k i b : ℕ) → c < box .channels → k < box .rows → i < box .columns → b < sizeOf q
-      → byteOf (getD xs (runIndex box c k + i) (pos 0)) b ≡ getD goal (runPosition q box c k + 32 * i + b) 0
+      → byteOf (getD xs (runFrom plane line c k + i) (pos 0)) b ≡ getD goal (runPosition q box c k + 32 * i + b) 0
   pub whole : pad ≡ true → box ≡ wholeBox q
   pub zero : pad ≡ true → (p : ℕ) → p < length before → owner q p ≡ padding → getD goal p 0 ≡ 0
   pub only : (after : List ℕ) → Toward 0 goal before after → ((c k : ℕ) → c < box .channels → k < box .rows → Reached q box pad goal after c k) → after ≡ goal
@@ -73,7 +74,7 @@ module _ (q : CubeLayout) (ok : Valid q) (box : ElementBox) (inside : BoxValid q
         subst (λ (p : ℕ). getD after (p + b) 0 ≡ getD goal (p + b) 0) at
         (all n r (omega (arith, i .channel-ge, i .channel-lt)) (omega (arith, i .row-ge, i .row-lt)) .elements k b (omega (arith, i .column-ge, i .column-lt)) hb)
 
-  edited-goal : Goal q box false xs before (edited q box xs before)
+  edited-goal : Goal q box false (box .rows * box .columns) (box .columns) xs before (edited q box xs before)
   edited-goal =
       record {
         held = edited-held;
@@ -110,7 +111,7 @@ module _ (q : CubeLayout) (ok : Valid q) (xs : List ℤ) (before : List ℕ) (ro
       there q ok (wholeBox q) (whole-valid q ok) xs before room true (packed q xs before) after all c h w b i hb ∙ ap (λ (l : List ℕ). getD l (elementPosition q c h w + b) 0) (sym by))
       ∙ by
 
-  packed-goal : Goal q (wholeBox q) true xs before (packed q xs before)
+  packed-goal : Goal q (wholeBox q) true (q .height * q .width) (q .width) xs before (packed q xs before)
   unfolding goal
   packed-goal =
       record {
@@ -122,8 +123,21 @@ module _ (q : CubeLayout) (ok : Valid q) (xs : List ℤ) (before : List ℕ) (ro
         only = packed-only;
       }
 
-pub written-goal : (q : CubeLayout) → Valid q → (box : ElementBox) → BoxValid q box → (pad : Bool) → (pad ≡ true → box ≡ wholeBox q) → (xs : List ℤ) (before : List ℕ)
-    → q .start + cubeExtent q ≤ length before → Goal q box pad xs before (boxWritten q box pad xs before)
+-- the box's elements in raw order
+raw-goal : (q : CubeLayout) → Valid q → (box : ElementBox) → BoxValid q box → (pad : Bool) → (pad ≡ true → box ≡ wholeBox q) → (xs : List ℤ) (before : List ℕ)
+    → q .start + cubeExtent q ≤ length before → Goal q box pad (box .rows * box .columns) (box .columns) xs before (boxWritten q box pad xs before)
 unfolding boxWritten
-written-goal q ok box inside false w xs before room = edited-goal q ok box inside xs before room
-written-goal q ok box inside true w xs before room = subst⁻¹ (λ (b : ElementBox). Goal q b true xs before (packed q xs before)) (w refl) (packed-goal q ok xs before room)
+raw-goal q ok box inside false w xs before room = edited-goal q ok box inside xs before room
+raw-goal q ok box inside true w xs before room = subst⁻¹ (λ (b : ElementBox). Goal q b true (b .rows * b .columns) (b .columns) xs before (packed q xs before)) (w refl) (packed-goal q ok xs before room)
+
+-- as they lie in any list
+pub written-goal : (q : CubeLayout) → Valid q → (box : ElementBox) → BoxValid q box → (pad : Bool) → (pad ≡ true → box ≡ wholeBox q) → (plane line : ℕ) (xs : List ℤ) (before : List ℕ)
+    → q .start + cubeExtent q ≤ length before → Goal q box pad plane line xs before (boxWritten q box pad (gathered box plane line xs) before)
+written-goal q ok box inside pad w plane line xs before room =
+    let g = raw-goal q ok box inside pad w (gathered box plane line xs) before room in
+    record {
+      held = λ c k i b hc hk hi hb. ap (λ (x : ℤ). byteOf x b) (sym (gathered-run box plane line xs c k i hc hk hi)) ∙ g .held c k i b hc hk hi hb;
+      whole = g .whole;
+      zero = g .zero;
+      only = g .only;
+    }

@@ -25,7 +25,7 @@ use Rattle.layout.specs.Contents.{readElement, boxElements}
 use Rattle.layout.proofs.Valid.{Valid}
 use Rattle.layout.proofs.BoxLaws.{BoxValid, index-channel, index-row, index-column, at-in, boxIndex-at}
 use Rattle.cube.specs.Steps.{runIndex, runPosition, AtomEnd, rowBlock}
-use Rattle.cube.proofs.RunLaws.{run-in, run-index, run-position, run-index-lt}
+use Rattle.cube.proofs.RunLaws.{box-run, run-in, run-index, run-position, run-index-lt, box-enough}
 use Rattle.cube.proofs.RowLaws.{row-index, row-position, row-fits, row-apart}
 
 -- channel c of the box's row k has its elements
@@ -65,27 +65,27 @@ module _ (q : CubeLayout) (box : ElementBox) (buf : List ℕ) where
 
   module _ (ok : Valid q) (inside : BoxValid q box) (room : q .start + cubeExtent q ≤ length buf) (n m r : ℕ) (end : AtomEnd (sizeOf q) (box .channel) (box .channels) n m) (hr : r < box .rows)
       (l : List ℤ) (count : length l ≡ boxCount box) where
-    fits : BlockFits (rowBlock q box n m r) (length l) (length buf)
-    fits = row-fits q box n m r end ok inside hr (length l) (length buf) count room
+    fits : BlockFits (rowBlock q box (box .rows * box .columns) (box .columns) n m r) (length l) (length buf)
+    fits = row-fits q box n m r end ok inside hr (box .rows * box .columns) (box .columns) (length l) (length buf) (box-enough q box inside (length l) count) room
 
     same : (k i : ℕ) → k < m - n → i < box .columns
         → elementAt (sizeOf q) buf (runPosition q box n r + 32 * i + k * sizeOf q) ≡ getD (boxElements q box buf) (runIndex box n r + box .rows * box .columns * k + i) (pos 0)
     same k i hk hi =
-        let index : runIndex box (n + k) r + i ≡ runIndex box n r + box .rows * box .columns * k + i = omega (arith, row-index q box n m r end k i, mul-comm k (box .rows * box .columns)) in
+        let index : runIndex box (n + k) r + i ≡ runIndex box n r + box .rows * box .columns * k + i = omega (arith, row-index (box .rows * box .columns) (box .columns) n r k i, mul-comm k (box .rows * box .columns)) in
         ap (elementAt (sizeOf q) buf) (row-position q box n m r end k i hk)
         ∙ run-holds (n + k) r i (omega (arith, hk, end .le)) hr hi
         ∙ ap (λ (x : ℕ). getD (boxElements q box buf) x (pos 0)) index
 
-    pub read-toward : Toward (pos 0) (boxElements q box buf) l (blockRead (rowBlock q box n m r) buf l)
-    read-toward = block-read-toward (rowBlock q box n m r) buf (boxElements q box buf) l fits (row-apart q box n m r end ok inside hr) same
+    pub read-toward : Toward (pos 0) (boxElements q box buf) l (blockRead (rowBlock q box (box .rows * box .columns) (box .columns) n m r) buf l)
+    read-toward = block-read-toward (rowBlock q box (box .rows * box .columns) (box .columns) n m r) buf (boxElements q box buf) l fits (row-apart q box n m r end ok inside hr) same
 
-    pub read-reached : (c : ℕ) → n ≤ c → c < m → RowRead box (boxElements q box buf) (blockRead (rowBlock q box n m r) buf l) c r
+    pub read-reached : (c : ℕ) → n ≤ c → c < m → RowRead box (boxElements q box buf) (blockRead (rowBlock q box (box .rows * box .columns) (box .columns) n m r) buf l) c r
     read-reached c low high i hi =
         let k = c - n in
         let index : runIndex box n r + box .rows * box .columns * k + i ≡ runIndex box c r + i =
-        omega (arith, row-index q box n m r end k i, mul-comm k (box .rows * box .columns), ap (λ (x : ℕ). runIndex box x r) (behind c low)) in
-        subst (λ (x : ℕ). getD (blockRead (rowBlock q box n m r) buf l) x (pos 0) ≡ getD (boxElements q box buf) x (pos 0)) index
-        (block-read-reached (rowBlock q box n m r) buf (boxElements q box buf) l fits (row-apart q box n m r end ok inside hr) same k i (omega arith) hi)
+        omega (arith, row-index (box .rows * box .columns) (box .columns) n r k i, mul-comm k (box .rows * box .columns), ap (λ (x : ℕ). runIndex box x r) (behind c low)) in
+        subst (λ (x : ℕ). getD (blockRead (rowBlock q box (box .rows * box .columns) (box .columns) n m r) buf l) x (pos 0) ≡ getD (boxElements q box buf) x (pos 0)) index
+        (block-read-reached (rowBlock q box (box .rows * box .columns) (box .columns) n m r) buf (boxElements q box buf) l fits (row-apart q box n m r end ok inside hr) same k i (omega arith) hi)
       where
         behind : (c : ℕ) → n ≤ c → n + (c - n) ≡ c
         behind c low = omega arith
@@ -101,7 +101,7 @@ module _ (q : CubeLayout) (box : ElementBox) (buf : List ℕ) where
         let n = channelAt box j - box .channel in
         let r = rowAt box j - box .row in
         let k = columnAt box j - box .column in
-        let index : runIndex box n r + k ≡ j = unfold runIndex boxIndex in boxIndex-at box j hj (inside .rows .some) (inside .columns .some) in
+        let index : runIndex box n r + k ≡ j = sym (box-run box (channelAt box j) (rowAt box j) (columnAt box j)) ∙ boxIndex-at box j hj (inside .rows .some) (inside .columns .some) in
         subst (λ (p : ℕ). getD after p (pos 0) ≡ getD (boxElements q box buf) p (pos 0)) index
         (all n r (omega (arith, i .channel-ge, i .channel-lt)) (omega (arith, i .row-ge, i .row-lt)) k (omega (arith, i .column-ge, i .column-lt)))
 

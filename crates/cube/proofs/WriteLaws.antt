@@ -7,7 +7,7 @@ use native.Mathlib.Decide.{decLt}
 use native.Mathlib.Nat.{add-mul, div-add-mod', mod-lt, mul-le-mul-right}
 use mathlib.Core.Path.{_≡_, sym, ap, subst, _∙_}
 use mathlib.Core.Bool.{Bool, true, false, _&&_}
-use mathlib.Core.Logic.{_⊎_, inl, inr, ⊎-elim}
+use mathlib.Core.Logic.{inl, inr, ⊎-elim}
 use mathlib.Core.List.{List}
 use lib.Dec.{eqb}
 use lib.ListN.{length, getD}
@@ -24,18 +24,19 @@ use Rattle.columns.proofs.ClearLaws.{cleared-length, cleared-in, cleared-out, w
 use Rattle.layout.specs.declared.CubeLayout.{CubeLayout}
 use Rattle.layout.specs.declared.ElementBox.{ElementBox}
 use Rattle.layout.specs.Geometry.{sizeOf, surfaces, elementPosition, atomPosition, cubeExtent}
-use Rattle.layout.specs.Boxes.{wholeBox, boxCount}
+use Rattle.layout.specs.Boxes.{wholeBox}
 use Rattle.layout.proofs.Valid.{Valid}
 use Rattle.layout.proofs.BoxLaws.{BoxValid}
 use Rattle.layout.proofs.Views.{element-surface}
 use Rattle.layout.proofs.Formulas.{AtomByte, PaddingByte, padding-exactly}
 use Rattle.layout.proofs.Extents.{atom-within}
-use Rattle.cube.specs.Steps.{runIndex, runPosition, AtomEnd, rowBlock, rowWritten}
+use Rattle.cube.specs.Steps.{runFrom, runPosition, AtomEnd, rowBlock, rowWritten}
 use Rattle.cube.proofs.RowLaws.{row-index, row-position, row-fits}
 use Rattle.cube.proofs.GoalLaws.{Goal, Reached}
 
-module _ (q : CubeLayout) (ok : Valid q) (box : ElementBox) (inside : BoxValid q box) (pad : Bool) (xs : List ℤ) (count : length xs ≡ boxCount box) (before goal : List ℕ)
-    (room : q .start + cubeExtent q ≤ length before) (g : Goal q box pad xs before goal)
+module _ (q : CubeLayout) (ok : Valid q) (box : ElementBox) (inside : BoxValid q box) (pad : Bool) (plane line : ℕ) (xs : List ℤ)
+    (enough : runFrom plane line (box .channels - 1) (box .rows - 1) + box .columns ≤ length xs) (before goal : List ℕ)
+    (room : q .start + cubeExtent q ≤ length before) (g : Goal q box pad plane line xs before goal)
     (n m r : ℕ) (end : AtomEnd (sizeOf q) (box .channel) (box .channels) n m) (hr : r < box .rows) where
   hn : n < box .channels
   hn = omega (arith, end .some, end .le)
@@ -43,31 +44,31 @@ module _ (q : CubeLayout) (ok : Valid q) (box : ElementBox) (inside : BoxValid q
   -- ---- the block alone
 
   same : (k i j : ℕ) → k < m - n → i < box .columns → j < sizeOf q
-      → byteOf (getD xs (runIndex box n r + i + k * (box .rows * box .columns)) (pos 0)) j ≡ getD goal (runPosition q box n r + 32 * i + k * sizeOf q + j) 0
+      → byteOf (getD xs (runFrom plane line n r + i + k * plane) (pos 0)) j ≡ getD goal (runPosition q box n r + 32 * i + k * sizeOf q + j) 0
   same k i j hk hi hj =
-      ap (λ (x : ℕ). byteOf (getD xs x (pos 0)) j) (row-index q box n m r end k i)
+      ap (λ (x : ℕ). byteOf (getD xs x (pos 0)) j) (row-index plane line n r k i)
       ∙ g .held (n + k) r i j (omega (arith, hk, end .le)) hr hi hj
       ∙ ap (λ (x : ℕ). getD goal (x + j) 0) (sym (row-position q box n m r end k i hk))
 
   module _ (l : List ℕ) (long : length l ≡ length before) where
-    fits : BlockFits (rowBlock q box n m r) (length xs) (length l)
-    fits = row-fits q box n m r end ok inside hr (length xs) (length l) count (subst (λ (x : ℕ). q .start + cubeExtent q ≤ x) (sym long) room)
+    fits : BlockFits (rowBlock q box plane line n m r) (length xs) (length l)
+    fits = row-fits q box n m r end ok inside hr plane line (length xs) (length l) enough (subst (λ (x : ℕ). q .start + cubeExtent q ≤ x) (sym long) room)
 
-    block-toward : Toward 0 goal l (blockWritten (rowBlock q box n m r) xs l)
-    block-toward = block-written-toward (rowBlock q box n m r) xs goal l fits same
+    block-toward : Toward 0 goal l (blockWritten (rowBlock q box plane line n m r) xs l)
+    block-toward = block-written-toward (rowBlock q box plane line n m r) xs goal l fits same
 
     block-reached : (k i j : ℕ) → k < m - n → i < box .columns → j < sizeOf q
-        → getD (blockWritten (rowBlock q box n m r) xs l) (runPosition q box n r + 32 * i + k * sizeOf q + j) 0 ≡ getD goal (runPosition q box n r + 32 * i + k * sizeOf q + j) 0
-    block-reached = block-written-reached (rowBlock q box n m r) xs goal l fits same
+        → getD (blockWritten (rowBlock q box plane line n m r) xs l) (runPosition q box n r + 32 * i + k * sizeOf q + j) 0 ≡ getD goal (runPosition q box n r + 32 * i + k * sizeOf q + j) 0
+    block-reached = block-written-reached (rowBlock q box plane line n m r) xs goal l fits same
 
     channel-reached : (c : ℕ) → n ≤ c → c < m → (i b : ℕ) → i < box .columns → b < sizeOf q
-        → getD (blockWritten (rowBlock q box n m r) xs l) (runPosition q box c r + 32 * i + b) 0 ≡ getD goal (runPosition q box c r + 32 * i + b) 0
+        → getD (blockWritten (rowBlock q box plane line n m r) xs l) (runPosition q box c r + 32 * i + b) 0 ≡ getD goal (runPosition q box c r + 32 * i + b) 0
     channel-reached c low high i b hi hb =
         let k = c - n in
         let hk : k < m - n = omega arith in
         let at : runPosition q box n r + 32 * i + k * sizeOf q ≡ runPosition q box c r + 32 * i =
         row-position q box n m r end k i hk ∙ ap (λ (x : ℕ). runPosition q box x r + 32 * i) (omega arith) in
-        subst (λ (p : ℕ). getD (blockWritten (rowBlock q box n m r) xs l) (p + b) 0 ≡ getD goal (p + b) 0) at (block-reached k i b hk hi hb)
+        subst (λ (p : ℕ). getD (blockWritten (rowBlock q box plane line n m r) xs l) (p + b) 0 ≡ getD goal (p + b) 0) at (block-reached k i b hk hi hb)
 
   -- ---- the last surface of the whole cube: its row's atoms begin with channel n
 
@@ -139,7 +140,7 @@ module _ (q : CubeLayout) (ok : Valid q) (box : ElementBox) (inside : BoxValid q
 
     module _ (l : List ℕ) (long : length l ≡ length before) where
       after : List ℕ
-      after = blockWritten (rowBlock q box n m r) xs (cleared (runPosition q box n r) (32 * box .columns) l)
+      after = blockWritten (rowBlock q box plane line n m r) xs (cleared (runPosition q box n r) (32 * box .columns) l)
 
       long-cleared : length (cleared (runPosition q box n r) (32 * box .columns) l) ≡ length before
       long-cleared = cleared-length (runPosition q box n r) (32 * box .columns) l ∙ long
@@ -153,7 +154,7 @@ module _ (q : CubeLayout) (ok : Valid q) (box : ElementBox) (inside : BoxValid q
           elim (decLt (x / e) (m - n)) [
             | yes h ↦
                 let p : runPosition q box n r + 32 * (i / 32) + x / e * e + x % e ≡ runPosition q box n r + i = omega (arith, div-add-mod' x e) in
-                subst (λ (y : ℕ). getD (blockWritten (rowBlock q box n m r) xs (cleared (runPosition q box n r) (32 * box .columns) l)) y 0 ≡ getD goal y 0) p
+                subst (λ (y : ℕ). getD (blockWritten (rowBlock q box plane line n m r) xs (cleared (runPosition q box n r) (32 * box .columns) l)) y 0 ≡ getD goal y 0) p
                 (block-reached (cleared (runPosition q box n r) (32 * box .columns) l) long-cleared (x / e) (i / 32) (x % e) h (omega arith) (mod-lt x (elementBytes-pos (q .precision))))
             | no f ↦
                 let past : q .channels * e ≤ 32 * (n * e / 32) + x = omega (arith, bytes, aligned, div-add-mod' x e, mul-le-mul-right {m = m - n} {n = x / e} e (omega arith)) in
@@ -175,7 +176,7 @@ module _ (q : CubeLayout) (ok : Valid q) (box : ElementBox) (inside : BoxValid q
                 (λ w.
                 let i = p - runPosition q box n r in
                 let is : runPosition q box n r + i ≡ p = omega (arith, w .0) in
-                inr (subst (λ (y : ℕ). getD (blockWritten (rowBlock q box n m r) xs (cleared (runPosition q box n r) (32 * box .columns) l)) y 0 ≡ getD goal y 0) is (line-reached i (omega (arith, w .0, w .1)))))
+                inr (subst (λ (y : ℕ). getD (blockWritten (rowBlock q box plane line n m r) xs (cleared (runPosition q box n r) (32 * box .columns) l)) y 0 ≡ getD goal y 0) is (line-reached i (omega (arith, w .0, w .1)))))
                 (λ o. ⊎-elim (λ s. inl (s ∙ cleared-out (runPosition q box n r) (32 * box .columns) l p o)) (λ s. inr s) (near .each p))
                 (where-is (runPosition q box n r) (32 * box .columns) p);
           }
@@ -198,7 +199,7 @@ module _ (q : CubeLayout) (ok : Valid q) (box : ElementBox) (inside : BoxValid q
     pub reached : (c : ℕ) → n ≤ c → c < m → Reached q box pad goal after c r
 
   module _ (aligned : pad ≡ true → n * sizeOf q % 32 ≡ 0) (l : List ℕ) (long : length l ≡ length before) where
-    pub row-done : (clear : Bool) → clear ≡ pad && eqb m (box .channels) → RowDone l (rowWritten (rowBlock q box n m r) clear xs l)
+    pub row-done : (clear : Bool) → clear ≡ pad && eqb m (box .channels) → RowDone l (rowWritten (rowBlock q box plane line n m r) clear xs l)
     unfolding rowWritten after
     row-done false e =
         record {

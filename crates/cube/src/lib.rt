@@ -1,16 +1,12 @@
-// Feature cubes packed and read back, whole or a box at a time (scope paper, "Cells and cubes").
+// Feature cubes packed and read back, whole or a box at a time, and boxes cleared (scope paper, "Cells and cubes").
 mod read;
 mod runs;
 mod write;
 
 ghost use mathlib.Core.Path.{_≡_};
-ghost use mathlib.Core.List.{_++_};
 ghost use lib.ListN.{length};
-ghost use Rattle.refusal.specs.Checks.{inOrder};
-ghost use Rattle.elements.specs.Values.{valueChecks};
 ghost use Rattle.layout.specs.Boxes.{wholeBox};
-ghost use Rattle.layout.specs.Rules.{admitChecks};
-ghost use Rattle.layout.specs.Calls.{packAnswer, packBuffer, unpackAnswer, unpackElements, writeBoxAnswer, writeBoxBuffer, readBoxAnswer, readBoxElements, positionQuantity};
+ghost use Rattle.layout.specs.Calls.{packAnswer, packBuffer, unpackAnswer, unpackElements, writeBoxAnswer, writeBoxBuffer, clearBoxAnswer, clearBoxBuffer, readBoxAnswer, readBoxElements, positionQuantity};
 use layout::CubeLayout;
 use layout::ElementBox;
 use refusal::Answer;
@@ -52,7 +48,9 @@ pub fn pack(layout: CubeLayout, elements: &[i16], buffer: &mut [u8]) -> Answer
         return a;
     };
     let pad = layout.channels * elements::element_bytes(layout.precision) % 32 != 0;
-    write::all(layout, cube, pad, elements, buffer);
+    let line = layout.width;
+    let plane = layout.height * line;
+    write::all(layout, cube, pad, elements, plane, line, buffer);
     Answer::Accepted
 }
 
@@ -79,7 +77,22 @@ pub fn write_box(layout: CubeLayout, b: ElementBox, elements: &[i16], buffer: &m
     let Answer::Accepted = a else {
         return a;
     };
-    write::all(layout, b, false, elements, buffer);
+    let line = b.columns;
+    let plane = b.rows * line;
+    write::all(layout, b, false, elements, plane, line, buffer);
+    Answer::Accepted
+}
+
+// Sets the elements of a box to 0, and no other byte.
+pub fn clear_box(layout: CubeLayout, b: ElementBox, buffer: &mut [u8]) -> Answer
+    ensures answered { λ r. ⌜ r ≡ clearBoxAnswer layout b (length (now (buffer .entry))) ⌝ }
+    ensures left { λ r. ⌜ now (buffer .exit) ≡ clearBoxBuffer layout b (now (buffer .entry)) ⌝ }
+{
+    let a = layout_calls::check_room(layout, b, buffer.len());
+    let Answer::Accepted = a else {
+        return a;
+    };
+    write::zeros(layout, b, buffer);
     Answer::Accepted
 }
 

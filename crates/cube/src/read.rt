@@ -18,12 +18,14 @@ pub(crate) fn all(layout: CubeLayout, b: ElementBox, buffer: &[u8], elements: &m
     let first = b.channel;
     let channels = b.channels;
     let rows = b.rows;
+    let line = b.columns;
+    let plane = rows * line;
     let mut n: u32 = 0;
     while n < channels {
         let m = runs::atom_end(e, first, channels, n);
         let mut r: u32 = 0;
         while r < rows {
-            let block = runs::row(layout, b, n, m, r);
+            let block = runs::row(layout, b, plane, line, n, m, r);
             columns_calls::read(block, buffer, elements);
             r += 1;
         }

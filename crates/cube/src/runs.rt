@@ -5,7 +5,7 @@ ghost use Rattle.refusal.specs.declared.Answer.the-variants.{Accepted};
 ghost use Rattle.refusal.specs.Checks.{inOrder};
 ghost use Rattle.layout.specs.Geometry.{elementPosition};
 ghost use Rattle.layout.specs.Rules.{layoutChecks, boxChecks};
-ghost use Rattle.cube.specs.Steps.{runPosition, runIndex, AtomEnd, rowBlock};
+ghost use Rattle.cube.specs.Steps.{runPosition, runFrom, AtomEnd, rowBlock};
 use columns::ColumnBlock;
 use layout::CubeLayout;
 use layout::ElementBox;
@@ -33,13 +33,12 @@ fn run_position(layout: CubeLayout, b: ElementBox, n: u32, r: u32) -> usize
     position_of(layout, channel, row, b.column) as usize
 }
 
-// Where channel n of the box's row r begins among the caller's elements.
-fn run_index(b: ElementBox, n: u32, r: u32) -> usize
-    requires { ⌜ (b .channels ≤ 8192) × (b .rows ≤ 8192) × (b .columns ≤ 8192) ⌝ }
-    requires { ⌜ (n < b .channels) × (r < b .rows) ⌝ }
-    ensures { λ i. ⌜ i ≡ runIndex b n r ⌝ }
+// Where channel n of row r begins among elements whose channels lie `plane` apart and whose rows lie `line` apart.
+fn run_from(plane: u32, line: u32, n: u32, r: u32) -> usize
+    requires { ⌜ (n < 8192) × (r < 8192) ⌝ }
+    ensures { λ i. ⌜ i ≡ runFrom plane line n r ⌝ }
 {
-    (n as usize * b.rows as usize + r as usize) * b.columns as usize
+    n as usize * plane as usize + r as usize * line as usize
 }
 
 // The channel behind those that lie in one atom with channel n of a box: the first of the next atom, or the end.
@@ -55,18 +54,26 @@ pub(crate) fn atom_end(e: u32, channel: u32, channels: u32, n: u32) -> u32
     next
 }
 
-// Channels n to m of the box's row r as columns, one in each atom.
-pub(crate) fn row(layout: CubeLayout, b: ElementBox, n: u32, m: u32, r: u32) -> ColumnBlock
+// Channels n to m of the box's row r as columns, one in each atom; among the elements, channels lie `plane` apart and rows `line`.
+pub(crate) fn row(
+    layout: CubeLayout,
+    b: ElementBox,
+    plane: u32,
+    line: u32,
+    n: u32,
+    m: u32,
+    r: u32,
+) -> ColumnBlock
     requires { ⌜ inOrder (boxChecks layout b) ≡ Accepted ⌝ }
     requires { ⌜ (n < m) × (m ≤ b .channels) × (r < b .rows) ⌝ }
-    ensures { λ v. ⌜ v ≡ rowBlock layout b n m r ⌝ }
+    ensures { λ v. ⌜ v ≡ rowBlock layout b plane line n m r ⌝ }
 {
     ColumnBlock {
         size: elements::element_bytes(layout.precision),
         rows: m - n,
         count: b.columns,
-        from: run_index(b, n, r),
-        plane: b.rows * b.columns,
+        from: run_from(plane, line, n, r),
+        plane: plane,
         at: run_position(layout, b, n, r),
         stride: 32,
     }

@@ -13,7 +13,7 @@ use mathlib.Core.List.{List, [], _∷_}
 use native.Mathlib.Nat.{le-of-suc-le-suc, not-suc-le-zero}
 use native.Mathlib.Omega.{arith}
 use lib.IntN.{ℤ, pos, negsuc}
-use lib.ListN.{length, getD}
+use lib.ListN.{length, getD, replicate, length-replicate, getD-replicate}
 use lib.Signed.{mag}
 use borrow.Author.Tests.{leb-true, lt-ltb, le-ltb}
 use Rattle.general.proofs.TestLaws.{and-left}
@@ -102,6 +102,12 @@ same-fault p zs r i m w e f =
     let v : Faulty p zs i = subst (λ (n : ℕ). Faulty p zs n) same w in
     (v .0, (cc), v .1, v .2)
 
+-- every precision takes 0
+zero-valid : (p : ℕ) → valueValid p (pos 0) ≡ true
+unfolding valueValid
+zero-valid zero = refl
+zero-valid (suc p) = refl
+
 -- ---- the check of all elements
 
 module _ (p : ℕ) (zs : List ℤ) where
@@ -136,3 +142,9 @@ module _ (p : ℕ) (zs : List ℤ) where
   pub precisionChecks-known : p < 3 → inOrder (precisionChecks p zs) ≡ inOrder (valueChecks p zs)
   unfolding precisionChecks
   precisionChecks-known h = inOrder-next 0 Precision _ (lt-ltb p 3 h)
+
+-- zeros pass
+pub valueChecks-zeros : (p n : ℕ) → inOrder (valueChecks p (replicate n (pos 0))) ≡ Accepted
+valueChecks-zeros p n =
+    valueChecks-all p (replicate n (pos 0))
+    (λ i h. ap (valueValid p) (getD-replicate n i (pos 0) (pos 0) (subst (λ (m : ℕ). i < m) (length-replicate n (pos 0)) h)) ∙ zero-valid p)

@@ -1,5 +1,5 @@
--- At every moment of a list the placed regions are inside the cube and share no position, so they share no byte. By induction on the list. Assumes
--- nothing.
+-- At every moment of a list the placed regions are inside the cube and share no position, so they share no byte. By induction on the list: a placing
+-- fills a slot with a rectangle that overlaps none, a release empties one. Assumes nothing.
 --     Apart, apart-empty, apart-run     the placed regions of a table, at every moment
 --     layout-at, apart-at               the layout and the regions at a moment
 --     no-shared-byte                    two placed regions share no byte
@@ -25,16 +25,16 @@ use Rattle.regions.specs.declared.Rectangle.{Rectangle}
 use Rattle.regions.specs.declared.RegionTable.{RegionTable}
 use Rattle.regions.specs.Slots.{Slot, empty, filled, slotOf, slotsOf, emptySlots, rectangleHas, rectangleInside}
 use Rattle.regions.specs.Rules.{access, accessOf, slotAt, placeChecks}
-use Rattle.regions.specs.Calls.{emptyTable, placeAnswer, placeTable}
+use Rattle.regions.specs.Calls.{emptyTable, placeAnswer, placeTable, releaseAnswer, releaseTable}
 use Rattle.regions.proofs.RuleLaws.{Placing, place-accepted, rectangle-columns, rectangle-rows}
 use Rattle.regions.proofs.OverlapLaws.{InRectangle, has-in, overlaps-apart}
-use Rattle.history.specs.Program.{Call, place, edit, read, State, beginning, step, runTo, moment, slotsAt}
-use Rattle.history.proofs.Agreement.{placed-layout, placed-slots}
+use Rattle.history.specs.Program.{Call, place, edit, read, release, State, beginning, step, runTo, moment, slotsAt}
+use Rattle.history.proofs.TableLaws.{placed-layout, placed-slots, released-layout, released-slots, layout-after}
 
 -- the placed rectangles are in the cube, and no two have a position in common
 pub record Apart (q : CubeLayout) (slots : List Slot) : Type 0 where
-  pub inside : (n : ℕ) (g : Rectangle) → slotAt slots n ≡ filled g → rectangleInside q g ≡ true
-  pub apart : (n m : ℕ) → n ≢ m → (f g : Rectangle) → slotAt slots n ≡ filled f → slotAt slots m ≡ filled g → (w h : ℕ) → InRectangle f w h → InRectangle g w h → ⊥
+  pub inside : (n id : ℕ) (g : Rectangle) → slotAt slots n ≡ filled id g → rectangleInside q g ≡ true
+  pub apart : (n m : ℕ) → n ≢ m → (i j : ℕ) (f g : Rectangle) → slotAt slots n ≡ filled i f → slotAt slots m ≡ filled j g → (w h : ℕ) → InRectangle f w h → InRectangle g w h → ⊥
 
 -- ---- the empty table
 slot-empty : (n : ℕ) → slotAt emptySlots n ≡ empty
@@ -46,63 +46,85 @@ apart-empty : (q p : CubeLayout) → Apart q (slotsOf (emptyTable p))
 unfolding slotsOf slotOf emptySlots
 apart-empty q p =
     record {
-      inside = λ n g e. absurd (let z : _≡_ {A = ℕ} 0 1 = cc (slot-empty n) in let f : ⊥ = omega arith in f);
-      apart = λ n m d f g e i w h a b. let z : _≡_ {A = ℕ} 0 1 = cc (slot-empty n) in omega arith;
+      inside = λ n id g e. absurd (let z : _≡_ {A = ℕ} 0 1 = cc (slot-empty n) in let f : ⊥ = omega arith in f);
+      apart = λ n m d i j f g e e′ w h a b. let z : _≡_ {A = ℕ} 0 1 = cc (slot-empty n) in omega arith;
     }
 
--- ---- one placing: a filled slot is the new one, or was filled before
-set-cases : (slots : List Slot) (n k : ℕ) (g f : Rectangle) → slotAt (set slots n (filled g)) k ≡ filled f → ((k ≡ n) × (f ≡ g)) ⊎ (slotAt slots k ≡ filled f)
+-- ---- one slot changed: what a slot is, the new one is or this one was
+set-cases : (slots : List Slot) (n k : ℕ) (new x : Slot) → slotAt (set slots n new) k ≡ x → ((k ≡ n) × (new ≡ x)) ⊎ (slotAt slots k ≡ x)
 unfolding slotAt
-set-cases slots n k g f e =
-    elim (ℕ-discrete k n) [ yes s ↦ at-it s | no d ↦ inr (sym (getD-set-other slots n k (filled g) empty d) ∙ e) ]
+set-cases slots n k new x e =
+    elim (ℕ-discrete k n) [ yes s ↦ at-it s | no d ↦ inr (sym (getD-set-other slots n k new empty d) ∙ e) ]
   where
-    at-it : k ≡ n → ((k ≡ n) × (f ≡ g)) ⊎ (getD slots k empty ≡ filled f)
+    at-it : k ≡ n → ((k ≡ n) × (new ≡ x)) ⊎ (getD slots k empty ≡ x)
     at-it s =
-        elim (decLt n (length slots)) [ yes h ↦ inl (s, (let i : filled g ≡ filled f = sym (getD-set-same slots n (filled g) empty h) ∙ sym (ap (λ (j : ℕ). getD (set slots n (filled g)) j empty) s) ∙ e in cc)) | no o ↦ inr (sym (ap (λ (l : List Slot). getD l k empty) (set-out slots n (filled g) (omega arith))) ∙ e) ]
+        elim (decLt n (length slots)) [ yes h ↦ inl (s, sym (getD-set-same slots n new empty h) ∙ sym (ap (λ (j : ℕ). getD (set slots n new) j empty) s) ∙ e) | no o ↦ inr (sym (ap (λ (l : List Slot). getD l k empty) (set-out slots n new (omega arith))) ∙ e) ]
 
-apart-placed : (q : CubeLayout) (slots : List Slot) (n : ℕ) (g : Rectangle) → Placing (access q slots n) g → Apart q slots → Apart q (set slots n (filled g))
-apart-placed q slots n g p a =
+-- a placing: a filled slot is the new one, or was filled before
+filled-cases : (slots : List Slot) (n k id i : ℕ) (g f : Rectangle) → slotAt (set slots n (filled id g)) k ≡ filled i f → ((k ≡ n) × (f ≡ g)) ⊎ (slotAt slots k ≡ filled i f)
+filled-cases slots n k id i g f e =
+    ⊎-elim (λ s. inl (s .0, (let same : filled id g ≡ filled i f = s .1 in cc))) inr (set-cases slots n k (filled id g) (filled i f) e)
+
+apart-placed : (q : CubeLayout) (slots : List Slot) (n id : ℕ) (g : Rectangle) → Placing (access q slots n id) g → Apart q slots → Apart q (set slots n (filled id g))
+apart-placed q slots n id g p a =
     record {
-      inside = λ k f e. ⊎-elim (λ s. subst (λ (r : Rectangle). rectangleInside q r ≡ true) (sym (s .1)) (p .inside)) (λ i. a .inside k f i) (set-cases slots n k g f e);
-      apart = λ k m d f r ef er w h hf hr. both k m d f r w h hf hr (set-cases slots n k g f ef) (set-cases slots n m g r er);
+      inside = λ k i f e. ⊎-elim (λ s. subst (λ (r : Rectangle). rectangleInside q r ≡ true) (sym (s .1)) (p .inside)) (λ o. a .inside k i f o) (filled-cases slots n k id i g f e);
+      apart = λ k m d i j f r ef er w h hf hr. both k m d i j f r w h hf hr (filled-cases slots n k id i g f ef) (filled-cases slots n m id j g r er);
     }
   where
-    both : (k m : ℕ) → k ≢ m → (f r : Rectangle) (w h : ℕ) → InRectangle f w h → InRectangle r w h → ((k ≡ n) × (f ≡ g)) ⊎ (slotAt slots k ≡ filled f) → ((m ≡ n) × (r ≡ g)) ⊎ (slotAt slots m ≡ filled r) → ⊥
-    both k m d f r w h hf hr (inl s) (inl s′) = d (s .0 ∙ sym (s′ .0))
-    both k m d f r w h hf hr (inl s) (inr o) = overlaps-apart slots g (p .apart) m r w h o hr (subst (λ (x : Rectangle). InRectangle x w h) (s .1) hf)
-    both k m d f r w h hf hr (inr o) (inl s) = overlaps-apart slots g (p .apart) k f w h o hf (subst (λ (x : Rectangle). InRectangle x w h) (s .1) hr)
-    both k m d f r w h hf hr (inr o) (inr o′) = a .apart k m d f r o o′ w h hf hr
+    both : (k m : ℕ) → k ≢ m → (i j : ℕ) (f r : Rectangle) (w h : ℕ) → InRectangle f w h → InRectangle r w h → ((k ≡ n) × (f ≡ g)) ⊎ (slotAt slots k ≡ filled i f) → ((m ≡ n) × (r ≡ g)) ⊎ (slotAt slots m ≡ filled j r) → ⊥
+    both k m d i j f r w h hf hr (inl s) (inl s′) = d (s .0 ∙ sym (s′ .0))
+    both k m d i j f r w h hf hr (inl s) (inr o) = overlaps-apart slots g (p .apart) m j r w h o hr (subst (λ (x : Rectangle). InRectangle x w h) (s .1) hf)
+    both k m d i j f r w h hf hr (inr o) (inl s) = overlaps-apart slots g (p .apart) k i f w h o hf (subst (λ (x : Rectangle). InRectangle x w h) (s .1) hr)
+    both k m d i j f r w h hf hr (inr o) (inr o′) = a .apart k m d i j f r o o′ w h hf hr
+
+-- a release: a filled slot was filled before
+still-filled : (slots : List Slot) (n k id : ℕ) (f : Rectangle) → slotAt (set slots n empty) k ≡ filled id f → slotAt slots k ≡ filled id f
+still-filled slots n k id f e =
+    ⊎-elim (λ s. absurd (let z : _≡_ {A = ℕ} 0 1 = cc (s .1) in let no-such : ⊥ = omega arith in no-such)) (λ o. o) (set-cases slots n k empty (filled id f) e)
+
+apart-released : (q : CubeLayout) (slots : List Slot) (n : ℕ) → Apart q slots → Apart q (set slots n empty)
+apart-released q slots n a =
+    record {
+      inside = λ k id g e. a .inside k id g (still-filled slots n k id g e);
+      apart = λ k m d i j f g ef eg. a .apart k m d i j f g (still-filled slots n k i f ef) (still-filled slots n m j g eg);
+    }
 
 -- ---- every moment
-module _ (t : RegionTable) (n : ℕ) (g : Rectangle) where
-  place-cases : (v : Answer) → inOrder (placeChecks (accessOf t n) g) ≡ v → Apart (t .layout) (slotsOf t) → Apart (t .layout) (leaves v (set (slotsOf t) n (filled g)) (slotsOf t))
-  unfolding leaves
-  place-cases Accepted e a = apart-placed (t .layout) (slotsOf t) n g (place-accepted (accessOf t n) g e) a
-  place-cases (Refused r i) e a = a
+module _ (t : RegionTable) (n id : ℕ) (a : Apart (t .layout) (slotsOf t)) where
+  module _ (g : Rectangle) where
+    place-cases : (v : Answer) → inOrder (placeChecks (accessOf t n id) g) ≡ v → Apart (t .layout) (leaves v (set (slotsOf t) n (filled id g)) (slotsOf t))
+    unfolding leaves
+    place-cases Accepted e = apart-placed (t .layout) (slotsOf t) n id g (place-accepted (accessOf t n id) g e) a
+    place-cases (Refused r i) e = a
 
-  apart-place : Apart (t .layout) (slotsOf t) → Apart (placeTable t n g .layout) (slotsOf (placeTable t n g))
-  unfolding placeAnswer
-  apart-place a =
-      subst (λ (p : CubeLayout). Apart p (slotsOf (placeTable t n g))) (sym (placed-layout t n g))
-      (subst (λ (l : List Slot). Apart (t .layout) l) (sym (placed-slots t n g)) (place-cases (placeAnswer t n g) refl a))
+    apart-place : Apart (placeTable t n id g .layout) (slotsOf (placeTable t n id g))
+    unfolding placeAnswer
+    apart-place =
+        subst (λ (p : CubeLayout). Apart p (slotsOf (placeTable t n id g))) (sym (placed-layout t n id g))
+        (subst (λ (l : List Slot). Apart (t .layout) l) (sym (placed-slots t n id g)) (place-cases (placeAnswer t n id g) refl))
+
+  release-cases : (v : Answer) → Apart (t .layout) (leaves v (set (slotsOf t) n empty) (slotsOf t))
+  unfolding leaves
+  release-cases Accepted = apart-released (t .layout) (slotsOf t) n a
+  release-cases (Refused r i) = a
+
+  apart-release : (len : ℕ) → Apart (releaseTable t n id len .layout) (slotsOf (releaseTable t n id len))
+  apart-release len =
+      subst (λ (p : CubeLayout). Apart p (slotsOf (releaseTable t n id len))) (sym (released-layout t n id len))
+      (subst (λ (l : List Slot). Apart (t .layout) l) (sym (released-slots t n id len)) (release-cases (releaseAnswer t n id len)))
 
 apart-after : (s : State) (c : Call) → Apart (s .table .layout) (slotsOf (s .table)) → Apart (step s c .state .table .layout) (slotsOf (step s c .state .table))
 unfolding step
-apart-after s (place n g) a = apart-place (s .table) n g a
-apart-after s (edit n b xs) a = a
-apart-after s (read n b xs) a = a
+apart-after s (place n id g) a = apart-place (s .table) n id a g
+apart-after s (edit n id b xs) a = a
+apart-after s (read n id b xs) a = a
+apart-after s (release n id) a = apart-release (s .table) n id a (length (s .buffer))
 
 apart-run : (s : State) (calls : List Call) → Apart (s .table .layout) (slotsOf (s .table)) → Apart (runTo s calls .table .layout) (slotsOf (runTo s calls .table))
 unfolding runTo
 apart-run s [] a = a
 apart-run s (c ∷ calls) a = apart-run (step s c .state) calls (apart-after s c a)
-
--- the layout stays
-layout-after : (s : State) (c : Call) → step s c .state .table .layout ≡ s .table .layout
-unfolding step
-layout-after s (place n g) = placed-layout (s .table) n g
-layout-after s (edit n b xs) = refl
-layout-after s (read n b xs) = refl
 
 layout-run : (s : State) (calls : List Call) → runTo s calls .table .layout ≡ s .table .layout
 unfolding runTo
@@ -120,17 +142,17 @@ module _ (q : CubeLayout) (raw : List ℤ) (before : List ℕ) (calls : List Cal
 -- ---- no shared byte
 module _ (q : CubeLayout) (ok : Valid q) (slots : List Slot) (a : Apart q slots) where
   -- an element of a placed region is in the cube
-  region-cube : (n : ℕ) (g : Rectangle) → slotAt slots n ≡ filled g → (c h w : ℕ) → c < q .channels → InRectangle g w h → InCube q c h w
-  region-cube n g e c h w hc i =
-      let cs = rectangle-columns q g (a .inside n g e) in
-      let rs = rectangle-rows q g (a .inside n g e) in
+  region-cube : (n id : ℕ) (g : Rectangle) → slotAt slots n ≡ filled id g → (c h w : ℕ) → c < q .channels → InRectangle g w h → InCube q c h w
+  region-cube n id g e c h w hc i =
+      let cs = rectangle-columns q g (a .inside n id g e) in
+      let rs = rectangle-rows q g (a .inside n id g e) in
       record { channel-lt = hc; row-lt = omega (arith, i .row-lt, rs .fit); column-lt = omega (arith, i .column-lt, cs .fit) }
 
-  pub no-shared-byte : (n m : ℕ) → n ≢ m → (f g : Rectangle) → slotAt slots n ≡ filled f → slotAt slots m ≡ filled g
+  pub no-shared-byte : (n m : ℕ) → n ≢ m → (i j : ℕ) (f g : Rectangle) → slotAt slots n ≡ filled i f → slotAt slots m ≡ filled j g
       → (c h w b c′ h′ w′ b′ : ℕ) → c < q .channels → rectangleHas f w h ≡ true → b < sizeOf q → c′ < q .channels → rectangleHas g w′ h′ ≡ true → b′ < sizeOf q
       → elementPosition q c h w + b ≡ elementPosition q c′ h′ w′ + b′ → ⊥
-  no-shared-byte n m d f g ef eg c h w b c′ h′ w′ b′ hc has hb hc′ has′ hb′ e =
-      let i = has-in f w h has in
-      let i′ = has-in g w′ h′ has′ in
-      let same = element-own q ok c h w b c′ h′ w′ b′ (region-cube n f ef c h w hc i) (region-cube m g eg c′ h′ w′ hc′ i′) hb hb′ e in
-      a .apart n m d f g ef eg w h i (subst (λ (x : ℕ). InRectangle g x h) (sym (same .2)) (subst (λ (x : ℕ). InRectangle g w′ x) (sym (same .1)) i′))
+  no-shared-byte n m d i j f g ef eg c h w b c′ h′ w′ b′ hc has hb hc′ has′ hb′ e =
+      let x = has-in f w h has in
+      let x′ = has-in g w′ h′ has′ in
+      let same = element-own q ok c h w b c′ h′ w′ b′ (region-cube n i f ef c h w hc x) (region-cube m j g eg c′ h′ w′ hc′ x′) hb hb′ e in
+      a .apart n m d i j f g ef eg w h x (subst (λ (y : ℕ). InRectangle g y h) (sym (same .2)) (subst (λ (y : ℕ). InRectangle g w′ y) (sym (same .1)) x′))

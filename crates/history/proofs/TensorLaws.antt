@@ -4,11 +4,12 @@
 --     packed-boxWritten                    the commuting law
 --     Fits, boxWritten-fits                every element fits its bytes
 --     packed-boxRead                       what a box of the packed buffer reads
-use Prim.Native.Nat.{ℕ, _+_, _/_, _^_, _≤_, _<_}
+--     zeros-at                             an element of a list of zeros
+use Prim.Native.Nat.{ℕ, zero, suc, _+_, _/_, _^_, _≤_, _<_}
 use mathlib.Core.Path.{_≡_, refl, sym, ap, _∙_, subst}
 use mathlib.Core.Bool.{Bool, true, false, cond}
 use mathlib.Core.List.{List}
-use lib.ListN.{length, getD}
+use lib.ListN.{length, getD, replicate}
 use lib.Seq.{ext-getD}
 use lib.IntN.{ℤ, pos}
 use lib.Signed.{mag}
@@ -126,3 +127,9 @@ packed-boxRead q ok box valid raw before long fits room =
     let cube = in-cube q box (channelAt box i) (rowAt box i) (columnAt box i) valid inb in
     stored-raw q ok raw before room (channelAt box i) (rowAt box i) (columnAt box i) cube
     (fits .fit (rawIndex q (channelAt box i) (rowAt box i) (columnAt box i)) (subst (λ (n : ℕ). rawIndex q (channelAt box i) (rowAt box i) (columnAt box i) < n) (sym long) (raw-index-lt q (channelAt box i) (rowAt box i) (columnAt box i) cube))))
+
+-- an element of a list of zeros
+pub zeros-at : (n i : ℕ) → getD (replicate n (pos 0)) i (pos 0) ≡ pos 0
+zeros-at zero i = refl
+zeros-at (suc n) zero = refl
+zeros-at (suc n) (suc i) = zeros-at n i

@@ -1,3 +1,4 @@
 pub mod Program
+pub mod Writes
 pub mod Model
 pub mod Example

@@ -1,5 +1,6 @@
 -- The reference model (the scope paper's "plain picture"): a raw tensor and sixteen slots, with no buffer and no table of the program in reach. It
--- is given the packed tensor, the layout and the buffer's length, and then each call's own arguments. Assumes nothing.
+-- is given the packed tensor, the layout and the buffer's length, and then each call's own arguments. A filled slot holds its owner's id beside the
+-- rectangle. Assumes nothing.
 use Prim.Native.Nat.{ℕ}
 use mathlib.Core.Bool.{cond}
 use mathlib.Core.List.{List, [], _∷_}
@@ -12,10 +13,11 @@ use Rattle.layout.specs.declared.CubeLayout.{CubeLayout}
 use Rattle.layout.specs.declared.ElementBox.{ElementBox}
 use Rattle.layout.specs.Geometry.{rawIndex}
 use Rattle.layout.specs.Boxes.{wholeBox, boxCount, boxHas, boxIndex, channelAt, rowAt, columnAt}
+use Rattle.layout.specs.Contents.{zerosOf}
 use Rattle.layout.specs.Calls.{packBuffer}
-use Rattle.regions.specs.Slots.{Slot, filled, emptySlots}
-use Rattle.regions.specs.Rules.{access, placeChecks, readChecks, editChecks, rectangleAt, cubeBox}
-use Rattle.history.specs.Program.{Call, place, edit, read, none, Reply, Shown}
+use Rattle.regions.specs.Slots.{Slot, empty, filled, emptySlots}
+use Rattle.regions.specs.Rules.{Access, access, regionBox, wholeRegion, placeChecks, readChecks, editChecks, releaseChecks}
+use Rattle.history.specs.Program.{Call, place, edit, read, release, none, Reply, Shown}
 
 -- the raw tensor with elements written at a box, in raw order over the box
 unfoldable pub boxWritten : CubeLayout → ElementBox → List ℤ → List ℤ → List ℤ
@@ -48,17 +50,26 @@ abbrev pub plainStepOf : Answer → List ℤ → List ℤ → List Slot → Plai
 plainStepOf answer elements raw slots = record { reply = record { answer = answer; value = none }; elements = elements; state = record { raw = raw; slots = slots } }
 
 module _ (q : CubeLayout) (len : ℕ) where
+  -- what a call through slot n with an id goes by
+  abbrev pub named : Plain → ℕ → ℕ → Access
+  named s n id = access q (s .slots) n id
+
   -- the answer to a call, by its order of checks
   unfoldable pub plainAnswer : Plain → Call → Answer
-  plainAnswer s (place n g) = inOrder (placeChecks (access q (s .slots) n) g)
-  plainAnswer s (edit n b xs) = inOrder (editChecks (access q (s .slots) n) b xs len)
-  plainAnswer s (read n b xs) = inOrder (readChecks (access q (s .slots) n) b (length xs) len)
+  plainAnswer s (place n id g) = inOrder (placeChecks (named s n id) g)
+  plainAnswer s (edit n id b xs) = inOrder (editChecks (named s n id) b xs len)
+  plainAnswer s (read n id b xs) = inOrder (readChecks (named s n id) b (length xs) len)
+  plainAnswer s (release n id) = inOrder (releaseChecks (named s n id) len)
 
-  -- one call: refused, it changes nothing
+  -- one call: refused, it changes nothing; a release is an edit of zeros to the whole region, and empties the slot
   unfoldable pub plainStep : Plain → Call → PlainStep
-  plainStep s (place n g) = let a = plainAnswer s (place n g) in plainStepOf a [] (s .raw) (leaves a (set (s .slots) n (filled g)) (s .slots))
-  plainStep s (edit n b xs) = let a = plainAnswer s (edit n b xs) in plainStepOf a xs (leaves a (boxWritten q (cubeBox (rectangleAt (s .slots) n) b) xs (s .raw)) (s .raw)) (s .slots)
-  plainStep s (read n b xs) = let a = plainAnswer s (read n b xs) in plainStepOf a (leaves a (boxRead q (cubeBox (rectangleAt (s .slots) n) b) (s .raw)) xs) (s .raw) (s .slots)
+  plainStep s (place n id g) = let a = plainAnswer s (place n id g) in plainStepOf a [] (s .raw) (leaves a (set (s .slots) n (filled id g)) (s .slots))
+  plainStep s (edit n id b xs) = let a = plainAnswer s (edit n id b xs) in plainStepOf a xs (leaves a (boxWritten q (regionBox (named s n id) b) xs (s .raw)) (s .raw)) (s .slots)
+  plainStep s (read n id b xs) = let a = plainAnswer s (read n id b xs) in plainStepOf a (leaves a (boxRead q (regionBox (named s n id) b) (s .raw)) xs) (s .raw) (s .slots)
+  plainStep s (release n id) =
+      let a = plainAnswer s (release n id) in
+      let box = regionBox (named s n id) (wholeRegion (named s n id)) in
+      plainStepOf a [] (leaves a (boxWritten q box (zerosOf box) (s .raw)) (s .raw)) (leaves a (set (s .slots) n empty) (s .slots))
 
   -- what the model gives after each call of a list
   unfoldable pub model : Plain → List Call → List PlainStep

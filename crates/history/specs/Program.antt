@@ -1,7 +1,6 @@
--- A list of calls, and what the program does at each: the promises of `begin`, `place`, `edit` and `read` cite these steps, and the fold goes from one
--- to the next (scope paper, "The plain picture"). Assumes nothing.
+-- A list of calls, and what the program does at each: the promises of `begin`, `place`, `edit`, `read` and `release` cite these steps, and the fold goes
+-- from one to the next (scope paper, "The plain picture"; change request K1). Assumes nothing.
 use Prim.Native.Nat.{ℕ}
-use mathlib.Core.Bool.{Bool, false}
 use mathlib.Core.List.{List, [], _∷_}
 use lib.ListN.{length}
 use lib.IntN.{ℤ}
@@ -9,25 +8,25 @@ pub use Rattle.elements.specs.Values.{SixteenBit}
 use Rattle.refusal.specs.declared.Answer.{Answer}
 use Rattle.layout.specs.declared.CubeLayout.{CubeLayout}
 use Rattle.layout.specs.declared.ElementBox.{ElementBox}
-use Rattle.layout.specs.Boxes.{boxHas}
 use Rattle.layout.specs.Calls.{packAnswer, packBuffer}
 use Rattle.regions.specs.declared.Rectangle.{Rectangle}
 use Rattle.regions.specs.declared.RegionTable.{RegionTable}
 use Rattle.regions.specs.Slots.{Slot, slotsOf}
-use Rattle.regions.specs.Rules.{rectangleAt, cubeBox}
-use Rattle.regions.specs.Calls.{emptyTable, placeAnswer, placeTable, editAnswer, editBuffer, readAnswer, readElements}
+use Rattle.regions.specs.Calls.{emptyTable, placeAnswer, placeTable, editAnswer, editBuffer, readAnswer, readElements, releaseAnswer, releaseTable, releaseBuffer}
 
--- a call with its arguments, save the table and the buffer; the elements are those that the caller lends
+-- a call with its arguments, save the table and the buffer: the slot, the owner's id, and what else it gives; the elements are those that the caller lends
 pub data Call : Type 0 where
-  place : (slot : ℕ) → Rectangle → Call
-  edit : (slot : ℕ) → ElementBox → List ℤ → Call
-  read : (slot : ℕ) → ElementBox → List ℤ → Call
+  place : (slot id : ℕ) → Rectangle → Call
+  edit : (slot id : ℕ) → ElementBox → List ℤ → Call
+  read : (slot id : ℕ) → ElementBox → List ℤ → Call
+  release : (slot id : ℕ) → Call
 
--- the elements that a call lends; placing lends none
+-- the elements that a call lends; placing and releasing lend none
 unfoldable pub lends : Call → List ℤ
-lends (place n g) = []
-lends (edit n b xs) = xs
-lends (read n b xs) = xs
+lends (place n id g) = []
+lends (edit n id b xs) = xs
+lends (read n id b xs) = xs
+lends (release n id) = []
 
 -- every call of a list lends such elements
 unfoldable pub LendsSixteenBit : List Call → Type 0
@@ -64,11 +63,12 @@ stepOf answer elements table buffer = record { reply = record { answer = answer;
 abbrev pub beginning : CubeLayout → List ℤ → List ℕ → Step
 beginning q raw before = stepOf (packAnswer q raw (length before)) raw (emptyTable q) (packBuffer q raw before)
 
--- one call; placing lends no elements
+-- one call; placing and releasing lend no elements
 unfoldable pub step : State → Call → Step
-step s (place n g) = stepOf (placeAnswer (s .table) n g) [] (placeTable (s .table) n g) (s .buffer)
-step s (edit n b xs) = stepOf (editAnswer (s .table) n b xs (length (s .buffer))) xs (s .table) (editBuffer (s .table) n b xs (s .buffer))
-step s (read n b xs) = stepOf (readAnswer (s .table) n b (length xs) (length (s .buffer))) (readElements (s .table) n b (s .buffer) xs) (s .table) (s .buffer)
+step s (place n id g) = stepOf (placeAnswer (s .table) n id g) [] (placeTable (s .table) n id g) (s .buffer)
+step s (edit n id b xs) = stepOf (editAnswer (s .table) n id b xs (length (s .buffer))) xs (s .table) (editBuffer (s .table) n id b xs (s .buffer))
+step s (read n id b xs) = stepOf (readAnswer (s .table) n id b (length xs) (length (s .buffer))) (readElements (s .table) n id b (s .buffer) xs) (s .table) (s .buffer)
+step s (release n id) = stepOf (releaseAnswer (s .table) n id (length (s .buffer))) [] (releaseTable (s .table) n id (length (s .buffer))) (releaseBuffer (s .table) n id (s .buffer))
 
 -- the program's state after a list of calls
 unfoldable pub runTo : State → List Call → State
@@ -96,9 +96,3 @@ moment q raw before calls = runTo (beginning q raw before .state) calls
 -- the slots at a moment
 abbrev pub slotsAt : CubeLayout → List ℤ → List ℕ → List Call → List Slot
 slotsAt q raw before calls = slotsOf (moment q raw before calls .table)
-
--- a call names element (c, h, w) to be written: an edit those of its box, a placing and a read none
-unfoldable pub writesElement : List Slot → Call → ℕ → ℕ → ℕ → Bool
-writesElement slots (place n g) c h w = false
-writesElement slots (edit n b xs) c h w = boxHas (cubeBox (rectangleAt slots n) b) c h w
-writesElement slots (read n b xs) c h w = false

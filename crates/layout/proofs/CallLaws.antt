@@ -6,30 +6,35 @@
 --     admit-box .. admit-valid       checks 6 and 5 after them
 --     box-counts             a box's counts are at most 8192
 --     write-refused .. write-admitted    7 after the others
+--     zeros-stored, clear-as-write   clearing a box is judged as writing zeros to it
+--     clear-box .. clear-front       check 5 after checks 1 to 4, 9
+--     clear-admitted, admit-clear    what an accepted clearing tells; a call that is admitted has room for one
 --     pack-whole, unpack-whole       calls on the whole cube are box calls
 --     admit-front            an accepted box call passed checks 1 to 4, 9
 use Prim.Native.Nat.{ℕ, _+_, _≤_, _<_}
 use native.Mathlib.Omega.{arith}
 use mathlib.Core.Path.{_≡_, refl, sym, ap, _∙_}
 use mathlib.Core.Bool.{true, false}
-use mathlib.Core.List.{List, [], _∷_, _++_}
-use lib.ListN.{length}
+use mathlib.Core.List.{List, [], _∷_, _++_, append-assoc}
+use lib.ListN.{length, replicate, length-replicate}
 use lib.Dec.{leb}
-use lib.IntN.{ℤ}
+use lib.IntN.{ℤ, pos}
 use borrow.Author.Tests.{leb-true, eqb-true, le-leb, lt-leb, eq-eqb, ne-eqb}
 use Rattle.refusal.specs.declared.Answer.{Answer}
 use Rattle.refusal.specs.declared.Answer.the-variants.{Accepted, Refused}
 use Rattle.refusal.specs.declared.Refusal.{Refusal}
 use Rattle.refusal.specs.declared.Refusal.the-variants.{BufferLength, ElementCount, Bounds}
 use Rattle.refusal.specs.Checks.{require, inOrder}
-use Rattle.refusal.proofs.CheckLaws.{Held, inOrder-all, requireAt-held, inOrder-nil, inOrder-next, inOrder-stop, inOrder-front, inOrder-back, inOrder-passed, inOrder-refused, inOrder-same}
+use Rattle.refusal.proofs.CheckLaws.{Held, inOrder-all, requireAt-held, inOrder-nil, inOrder-next, inOrder-stop, inOrder-front, inOrder-back, inOrder-passed, inOrder-refused, inOrder-same, inOrder-then}
 use Rattle.elements.specs.Values.{valueChecks}
+use Rattle.elements.proofs.ValueLaws.{valueChecks-zeros}
 use Rattle.layout.specs.declared.CubeLayout.{CubeLayout}
 use Rattle.layout.specs.declared.ElementBox.{ElementBox}
 use Rattle.layout.specs.Geometry.{cubeExtent}
 use Rattle.layout.specs.Boxes.{wholeBox, boxCount, boxInside}
-use Rattle.layout.specs.Rules.{layoutChecks, boxChecks, storageChecks, cubeChecks, admitChecks}
-use Rattle.layout.specs.Calls.{packAnswer, unpackAnswer, writeBoxAnswer, readBoxAnswer}
+use Rattle.layout.specs.Rules.{layoutChecks, boxChecks, roomChecks, storageChecks, cubeChecks, admitChecks}
+use Rattle.layout.specs.Contents.{zerosOf}
+use Rattle.layout.specs.Calls.{packAnswer, unpackAnswer, writeBoxAnswer, clearBoxAnswer, readBoxAnswer}
 use Rattle.layout.proofs.Valid.{Valid, valid}
 use Rattle.layout.proofs.BoxLaws.{BoxValid, box-valid, whole-inside, whole-count}
 
@@ -167,6 +172,43 @@ module _ (q : CubeLayout) (box : ElementBox) (xs : List ℤ) (len : ℕ) where
   pub write-admitted : writeBoxAnswer q box xs len ≡ Accepted → inOrder (admitChecks q box (length xs) len) ≡ Accepted
   unfolding writeBoxAnswer
   write-admitted e = inOrder-front (admitChecks q box (length xs) len) (valueChecks (q .precision) xs) e
+
+-- zeros, as many as are wanted, are never refused by 6 or 7
+pub zeros-stored : (q : CubeLayout) (n len : ℕ) → inOrder (storageChecks q n (length (replicate n (pos 0))) len ++ valueChecks (q .precision) (replicate n (pos 0))) ≡ inOrder (roomChecks q len)
+unfolding storageChecks
+zeros-stored q n len =
+    inOrder-next 0 ElementCount _ (eq-eqb _ _ (length-replicate n (pos 0)))
+    ∙ inOrder-then (roomChecks q len) (valueChecks (q .precision) (replicate n (pos 0))) [] (valueChecks-zeros (q .precision) n ∙ sym inOrder-nil)
+
+-- clearing a box is judged as writing zeros to it
+pub clear-as-write : (q : CubeLayout) (box : ElementBox) (len : ℕ) → clearBoxAnswer q box len ≡ writeBoxAnswer q box (zerosOf box) len
+unfolding clearBoxAnswer writeBoxAnswer admitChecks
+clear-as-write q box len =
+    inOrder-then (boxChecks q box) _ _ (sym (zeros-stored q (boxCount box) len)) ∙ sym (ap inOrder (append-assoc (boxChecks q box) _ _))
+
+-- ---- checks 1 to 4, 9, 5 as the code goes through them
+module _ (q : CubeLayout) (box : ElementBox) (len : ℕ) where
+  pub clear-box : {r : Refusal} {i : ℕ} → inOrder (boxChecks q box) ≡ Refused r i → Refused r i ≡ clearBoxAnswer q box len
+  unfolding clearBoxAnswer
+  clear-box e = sym (inOrder-refused (boxChecks q box) (roomChecks q len) e)
+
+  pub clear-room : inOrder (boxChecks q box) ≡ Accepted → len < q .start + cubeExtent q → Refused BufferLength 0 ≡ clearBoxAnswer q box len
+  unfolding clearBoxAnswer
+  clear-room ok h = sym (inOrder-passed (boxChecks q box) (roomChecks q len) ok ∙ inOrder-stop 0 BufferLength [] (lt-leb (q .start + cubeExtent q) len h))
+
+  pub clear-valid : inOrder (boxChecks q box) ≡ Accepted → q .start + cubeExtent q ≤ len → Accepted ≡ clearBoxAnswer q box len
+  unfolding clearBoxAnswer
+  clear-valid ok h = sym (inOrder-passed (boxChecks q box) (roomChecks q len) ok ∙ inOrder-next 0 BufferLength [] (le-leb (q .start + cubeExtent q) len h) ∙ inOrder-nil)
+
+  pub clear-front : clearBoxAnswer q box len ≡ Accepted → inOrder (boxChecks q box) ≡ Accepted
+  unfolding clearBoxAnswer
+  clear-front e = inOrder-front (boxChecks q box) (roomChecks q len) e
+
+  pub clear-admitted : clearBoxAnswer q box len ≡ Accepted → Admitted q box (length (zerosOf box)) len
+  clear-admitted e = admitted q box (length (zerosOf box)) len (write-admitted q box (zerosOf box) len (sym (clear-as-write q box len) ∙ e))
+
+  pub admit-clear : (given : ℕ) → inOrder (admitChecks q box given len) ≡ Accepted → clearBoxAnswer q box len ≡ Accepted
+  admit-clear given e = sym (clear-valid (admit-front q box given len e) (admitted q box given len e .room))
 
 -- packing is judged as writing the whole box
 pub pack-whole : (q : CubeLayout) (raw : List ℤ) (len : ℕ) → packAnswer q raw len ≡ writeBoxAnswer q (wholeBox q) raw len

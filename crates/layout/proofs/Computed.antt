@@ -22,7 +22,7 @@ use Rattle.layout.specs.Owners.{element, padding, outside, surfaceOf, ro
 use Rattle.layout.specs.Rules.{sizesValid, wholeAtoms, stridesValid, layoutChecks, boxChecks, storageChecks, cubeChecks, admitChecks}
 use Rattle.layout.specs.Contents.{packedByte, editedByte}
 use Rattle.layout.specs.Whose.{inExtent, byteOwner, whoseAnswer, ownerAnswer}
-use Rattle.layout.specs.Calls.{packAnswer, unpackAnswer, writeBoxAnswer, readBoxAnswer, extentQuantity, positionQuantity}
+use Rattle.layout.specs.Calls.{packAnswer, unpackAnswer, writeBoxAnswer, clearBoxAnswer, readBoxAnswer, extentQuantity, positionQuantity}
 
 abbrev frame : CubeLayout
 frame = layoutOf 3 2 40 0 128 256 0
@@ -88,13 +88,17 @@ pub record Computed : Type 0 where
   pub write-double : map (λ (q : CubeLayout). answerCode (writeBoxAnswer q past-channels [] 0)) wrong ≡ 1 ∷ 2 ∷ 3 ∷ 4 ∷ 9 ∷ []
   pub write-count-first : answerCode (writeBoxAnswer (single 0 0) (oneElement 0 0 0) [] 31) ≡ 6
   pub write-room-first : answerCode (writeBoxAnswer (single 0 0) (oneElement 0 0 0) (pos 200 ∷ []) 31) ≡ 5
-  -- reading a box the same, without 7
+  -- clearing a box the same, without 6 and 7: also 9 and 5; a buffer of the extent is valid
+  pub clear-double : map (λ (q : CubeLayout). answerCode (clearBoxAnswer q past-channels 0)) wrong ≡ 1 ∷ 2 ∷ 3 ∷ 4 ∷ 9 ∷ []
+  pub clear-short : answerCode (clearBoxAnswer (single 0 0) (oneElement 0 0 0) 31) ≡ 5
+  pub clear-exact : answerCode (clearBoxAnswer (single 0 0) (oneElement 0 0 0) 32) ≡ 0
+  -- reading a box the same as writing, without 7
   pub read-double : map (λ (q : CubeLayout). answerCode (readBoxAnswer q past-channels 0 0)) wrong ≡ 1 ∷ 2 ∷ 3 ∷ 4 ∷ 9 ∷ []
   pub read-count-first : answerCode (readBoxAnswer (single 0 0) (oneElement 0 0 0) 0 31) ≡ 6
   pub read-room : answerCode (readBoxAnswer (single 0 0) (oneElement 0 0 0) 1 31) ≡ 5
 
 pub computed : Computed
-unfolding requireAt inOrder sizeValid elementBytes byteOf wordAt signed elementAt valueValid valueCheck valueChecksFrom valueChecks elementCount rawIndex surfaces elementPosition cubeExtent boxCount spanInside boxInside spanHas boxHas boxIndex channelAt rowAt columnAt surfaceOf rowOf columnOf byteInAtom inAtom atomOwner owner sizesValid wholeAtoms stridesValid layoutChecks boxChecks storageChecks cubeChecks admitChecks packedByte editedByte packAnswer unpackAnswer writeBoxAnswer readBoxAnswer result extentQuantity positionQuantity
+unfolding requireAt inOrder sizeValid elementBytes byteOf wordAt signed elementAt valueValid valueCheck valueChecksFrom valueChecks elementCount rawIndex surfaces elementPosition cubeExtent boxCount spanInside boxInside spanHas boxHas boxIndex channelAt rowAt columnAt surfaceOf rowOf columnOf byteInAtom inAtom atomOwner owner sizesValid wholeAtoms stridesValid layoutChecks boxChecks storageChecks cubeChecks admitChecks packedByte editedByte packAnswer unpackAnswer writeBoxAnswer clearBoxAnswer readBoxAnswer result extentQuantity positionQuantity
 computed =
     record {
       position = refl;
@@ -129,6 +133,9 @@ computed =
       write-double = refl;
       write-count-first = refl;
       write-room-first = refl;
+      clear-double = refl;
+      clear-short = refl;
+      clear-exact = refl;
       read-double = refl;
       read-count-first = refl;
       read-room = refl;

@@ -12,8 +12,8 @@ use Rattle.layout.specs.declared.CubeLayout.{CubeLayout}
 use Rattle.layout.specs.declared.ElementBox.{ElementBox}
 use Rattle.layout.specs.Geometry.{elementPosition, cubeExtent}
 use Rattle.layout.specs.Boxes.{oneElement}
-use Rattle.layout.specs.Rules.{layoutChecks, boxChecks, cubeChecks, admitChecks}
-use Rattle.layout.specs.Contents.{packed, edited, boxElements, unpacked}
+use Rattle.layout.specs.Rules.{layoutChecks, boxChecks, roomChecks, cubeChecks, admitChecks}
+use Rattle.layout.specs.Contents.{packed, edited, zerosOf, boxElements, unpacked}
 
 -- pack: 1, 2, 3, 4, 6, 5, 7
 unfoldable pub packAnswer : CubeLayout → List ℤ → ℕ → Answer
@@ -35,6 +35,13 @@ writeBoxAnswer q box elements len = inOrder (admitChecks q box (length elements)
 
 unfoldable pub writeBoxBuffer : CubeLayout → ElementBox → List ℤ → List ℕ → List ℕ
 writeBoxBuffer q box elements before = leaves (writeBoxAnswer q box elements (length before)) (edited q box elements before) before
+
+-- clear a box: 1, 2, 3, 4, 9, 5; every element of it becomes 0
+unfoldable pub clearBoxAnswer : CubeLayout → ElementBox → ℕ → Answer
+clearBoxAnswer q box len = inOrder (boxChecks q box ++ roomChecks q len)
+
+unfoldable pub clearBoxBuffer : CubeLayout → ElementBox → List ℕ → List ℕ
+clearBoxBuffer q box before = leaves (clearBoxAnswer q box (length before)) (edited q box (zerosOf box) before) before
 
 -- read a box: 1, 2, 3, 4, 9, 6, 5
 unfoldable pub readBoxAnswer : CubeLayout → ElementBox → ℕ → ℕ → Answer

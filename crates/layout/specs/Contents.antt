@@ -2,7 +2,7 @@
 use Prim.Native.Nat.{ℕ}
 use mathlib.Core.Bool.{cond}
 use mathlib.Core.List.{List}
-use lib.ListN.{getD}
+use lib.ListN.{getD, replicate}
 use lib.IntN.{ℤ, pos}
 use Rattle.elements.specs.Bytes.{byteOf, elementAt}
 use Rattle.elements.specs.Lists.{remade, tabulate}
@@ -31,6 +31,10 @@ editedByte box elements outside old = old
 -- the buffer after writing elements, in raw order over the box, over `before`
 unfoldable pub edited : CubeLayout → ElementBox → List ℤ → List ℕ → List ℕ
 edited q box elements before = remade (λ (p old : ℕ). editedByte box elements (owner q p) old) before
+
+-- a zero for each element of a box
+abbrev pub zerosOf : ElementBox → List ℤ
+zerosOf box = replicate (boxCount box) (pos 0)
 
 -- the element (c, h, w) that a buffer holds
 unfoldable pub readElement : CubeLayout → List ℕ → ℕ → ℕ → ℕ → ℤ

@@ -38,10 +38,13 @@ layoutChecks q =
 unfoldable pub boxChecks : CubeLayout → ElementBox → List Answer
 boxChecks q b = layoutChecks q ++ (require Bounds (boxInside q b) ∷ [])
 
--- 6 and 5: `given` elements where `count` are wanted, and a buffer of `len` bytes that holds the start and the extent
+-- 5: a buffer of `len` bytes that holds the start and the extent
+abbrev pub roomChecks : CubeLayout → ℕ → List Answer
+roomChecks q len = require BufferLength (leb (q .start + cubeExtent q) len) ∷ []
+
+-- 6 and 5: `given` elements where `count` are wanted, and room in the buffer
 unfoldable pub storageChecks : CubeLayout → ℕ → ℕ → ℕ → List Answer
-storageChecks q count given len =
-    require ElementCount (eqb given count) ∷ require BufferLength (leb (q .start + cubeExtent q) len) ∷ []
+storageChecks q count given len = require ElementCount (eqb given count) ∷ roomChecks q len
 
 -- 1 to 4, 6, 5: the whole cube
 unfoldable pub cubeChecks : CubeLayout → ℕ → ℕ → List Answer

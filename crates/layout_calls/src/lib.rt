@@ -7,7 +7,7 @@ ghost use mathlib.Core.Path.{_≡_};
 ghost use Rattle.refusal.specs.Checks.{inOrder};
 ghost use Rattle.layout.specs.Boxes.{spanInside};
 ghost use Rattle.layout.specs.Rules.{layoutChecks, boxChecks, admitChecks};
-ghost use Rattle.layout.specs.Calls.{extentQuantity};
+ghost use Rattle.layout.specs.Calls.{clearBoxAnswer, extentQuantity};
 ghost use Rattle.layout.specs.Whose.{whoseAnswer};
 use layout::ByteOwner;
 use layout::CubeLayout;
@@ -75,6 +75,21 @@ pub fn check_box(layout: CubeLayout, b: ElementBox) -> Answer
     };
     if !rules::box_inside(layout, b) {
         return Answer::Refused(Refusal::Bounds, 0);
+    }
+    Answer::Accepted
+}
+
+// Checks 1 to 4, 9, 5 of a call on a box that lends a buffer of `len` bytes and no elements.
+pub fn check_room(layout: CubeLayout, b: ElementBox, len: usize) -> Answer
+    ensures { λ r. ⌜ r ≡ clearBoxAnswer layout b len ⌝ }
+{
+    let a = check_box(layout, b);
+    let Answer::Accepted = a else {
+        return a;
+    };
+    let end = measure::end(layout);
+    if (len as u64) < end {
+        return Answer::Refused(Refusal::BufferLength, 0);
     }
     Answer::Accepted
 }

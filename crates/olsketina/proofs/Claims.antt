@@ -6,10 +6,10 @@ use mathlib.Core.Path.{_≡_, refl}
 use mathlib.Core.List.{List, [], flatten}
 use lib.ListN.{length}
 use lib.IntN.{ℤ, pos}
-use Rattle.refusal.specs.Checks.{leaves}
+use Rattle.refusal.specs.declared.Answer.the-variants.{Accepted}
 use Rattle.regions.specs.declared.RegionTable.{RegionTable}
 use Rattle.regions.specs.declared.Rectangle.{Rectangle}
-use Rattle.regions.specs.Calls.{placeAnswer, placeTable}
+use Rattle.regions.specs.Calls.{placeTable, releaseAnswer, releaseTable}
 use Rattle.lut.specs.declared.Counters.{Counters}
 use Rattle.lut.specs.declared.LutSettings.{LutSettings}
 use Rattle.camera.specs.declared.Choice.{Choice}
@@ -24,13 +24,13 @@ use Rattle.script.specs.Output.{fieldsText, rowText}
 use Rattle.script.specs.Feed.{fed, finished}
 use Rattle.olsketina.specs.Sizes.{layoutSize, slotSize, slotCount, tableSize, frameWord, stateSize}
 use Rattle.olsketina.specs.Words.{word}
-use Rattle.olsketina.specs.Tables.{tableAt, withTable, Outside}
+use Rattle.olsketina.specs.Tables.{tableAt, withTable, placeWords, releaseWords, Outside}
 use Rattle.olsketina.specs.Lookups.{countersFrom, counterWords}
 use Rattle.olsketina.specs.Ready.{fedBack}
 use Rattle.olsketina.specs.Sheets.{sheetFrom, withSheet, rowWords, HasRefusal}
 use Rattle.olsketina.specs.Feeding.{Held, begun, rowsHeld, wordsOf}
 use Rattle.olsketina.proofs.TableLaws as table
-use Rattle.olsketina.proofs.PlaceLaws as place
+use Rattle.olsketina.proofs.SlotLaws as slot
 use Rattle.olsketina.proofs.SheetLaws as state
 use Rattle.olsketina.proofs.FeedLaws as feed
 use Rattle.olsketina.proofs.ReadyLaws as ready
@@ -42,16 +42,24 @@ pub table-back : (t : RegionTable) (l : List ℕ) → length (t .slots) ≡ slot
 table-back t l slots long = table.decoded t 0 l (omega (arith, long)) slots
 
 -- after a placing, refused or accepted, the words say the table that `regions::place` hands back
-pub place-back : (l : List ℕ) (n : ℕ) (g : Rectangle) → length l ≡ tableSize
-    → let t = tableAt l 0 in
-    tableAt (leaves (placeAnswer t n g) (withTable (placeTable t n g) 0 l) l) 0 ≡ placeTable t n g
-place-back l n g long = place.place-back l n g long
+pub place-back : (l : List ℕ) (n id : ℕ) (g : Rectangle) → length l ≡ tableSize → tableAt (placeWords l n id g) 0 ≡ placeTable (tableAt l 0) n id g
+place-back l n id g long = slot.place-back l n id g long
 
 -- a placing changes the words of its slot and no other
-pub place-alone : (l : List ℕ) (n : ℕ) (g : Rectangle) (p : ℕ) → Outside (layoutSize + slotSize * n) slotSize p
-    → let t = tableAt l 0 in
-    word (leaves (placeAnswer t n g) (withTable (placeTable t n g) 0 l) l) p ≡ word l p
-place-alone l n g p out = place.place-alone l n g p out
+pub place-alone : (l : List ℕ) (n id : ℕ) (g : Rectangle) (p : ℕ) → Outside (layoutSize + slotSize * n) slotSize p → word (placeWords l n id g) p ≡ word l p
+place-alone l n id g p out = slot.place-alone l n id g p out
+
+-- after a release, refused or accepted, the words say the table that `regions::release` hands back
+pub release-back : (l : List ℕ) (n id len : ℕ) → length l ≡ tableSize → tableAt (releaseWords l n id len) 0 ≡ releaseTable (tableAt l 0) n id len
+release-back l n id len long = slot.release-back l n id len long
+
+-- a release changes the words of its slot and no other; accepted, it makes them 0
+pub release-alone : (l : List ℕ) (n id len p : ℕ) → Outside (layoutSize + slotSize * n) slotSize p → word (releaseWords l n id len) p ≡ word l p
+release-alone l n id len p out = slot.release-alone l n id len p out
+
+pub release-frees : (l : List ℕ) (n id len : ℕ) → length l ≡ tableSize → releaseAnswer (tableAt l 0) n id len ≡ Accepted
+    → (j : ℕ) → j < slotSize → word (releaseWords l n id len) (layoutSize + slotSize * n + j) ≡ 0
+release-frees l n id len long ok j h = slot.release-frees l n id len long ok j h
 
 -- ---- lookups
 

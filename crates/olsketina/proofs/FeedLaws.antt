@@ -7,16 +7,17 @@ use Prim.Native.Nat.{ℕ, zero, suc, _^_, _≤_, _<_}
 use mathlib.Core.Path.{_≡_, refl, sym, ap, _∙_, subst}
 use mathlib.Core.Bool.{Bool, true, false, cond}
 use mathlib.Core.List.{List, [], _∷_, map-append, flatten}
-use lib.ListN.{length, drop}
+use lib.ListN.{length, drop, length-set}
 use lib.Dec.{eqb}
 use Rattle.refusal.specs.declared.Answer.{Answer}
 use Rattle.refusal.specs.declared.Answer.the-variants.{Accepted, Refused}
 use Rattle.refusal.specs.Checks.{leaves}
 use Rattle.regions.specs.Slots.{rectangle}
+use Rattle.regions.specs.Calls.{noRegion}
 use Rattle.lines.specs.Texts.{partLength, linesOf}
 use Rattle.lines.specs.Collecting.{added, collected}
 use Rattle.records.specs.declared.Record.{Record}
-use Rattle.records.specs.declared.Record.the-variants.{Frame, Stall, Cell, Unreadable}
+use Rattle.records.specs.declared.Record.the-variants.{Frame, Stall, Cell, Leave, Unreadable}
 use Rattle.records.specs.Records.{lineRecord}
 use Rattle.script.specs.declared.Sheet.{Sheet}
 use Rattle.script.specs.declared.Row.{Row}
@@ -31,7 +32,7 @@ use Rattle.olsketina.specs.Sizes.{slotCount, frameWord, stateSize}
 use Rattle.olsketina.specs.Words.{word}
 use Rattle.olsketina.specs.Sheets.{sheetFrom, withSheet, rowWords, HasRefusal}
 use Rattle.olsketina.specs.Feeding.{Held, heldSheet, holding, begun, rowThen, partHeld, rowsHeld, wordsOf}
-use Rattle.olsketina.proofs.PlaceLaws.{placed-all}
+use Rattle.olsketina.proofs.SlotLaws.{place-all}
 use Rattle.olsketina.proofs.SheetLaws.{sheet-back, sheet-over, sheet-length, desk-same}
 
 -- a call that ended no line
@@ -90,8 +91,9 @@ desk-slots d r h = go (recordAnswer d r)
   where
     done : (r : Record) → length (recordDone d r .table .slots) ≡ slotCount
     done (Frame q) = unfold recordDone in refl
-    done (Stall slot w0 h0 w g) = unfold recordDone in placed-all (d .table) slot (rectangle w0 h0 w g) h
-    done (Cell slot c g w) = unfold recordDone in h
+    done (Stall slot w0 h0 w g id) = unfold recordDone in place-all (d .table) slot id (rectangle w0 h0 w g) h
+    done (Cell slot c g w id) = unfold recordDone in h
+    done (Leave slot id) = unfold recordDone in length-set (d .table .slots) slot noRegion ∙ h
     done Unreadable = unfold recordDone in h
 
     go : (a : Answer) → length ((leaves a (recordDone d r) d) .table .slots) ≡ slotCount

@@ -2,7 +2,7 @@
 --     WordLaws     a flag as a word
 --     OverLaws     entries written over a list, one after another
 --     TableLaws    a table as words: read back, written over itself
---     PlaceLaws    a placing
+--     SlotLaws     a placing and a release
 --     SheetLaws    a sheet's state as words
 --     FeedLaws     a sheet's calls over words
 --     ReadyLaws    the ready-made words
@@ -10,7 +10,7 @@
 pub mod WordLaws
 pub mod OverLaws
 pub mod TableLaws
-pub mod PlaceLaws
+pub mod SlotLaws
 pub mod SheetLaws
 pub mod FeedLaws
 pub mod ReadyLaws

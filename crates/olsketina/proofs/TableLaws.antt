@@ -1,7 +1,7 @@
 -- A table as words: word i of it; a table written is read back, and one written over its own words changes none. Assumes nothing.
 --     tableWord-layout, tableWord-slot      word i of a table
 --     table-slots                           a table of words has all slots
---     decoded                               a table written is read back
+--     slot-there, decoded                   a table written is read back
 --     word-same, encoded                    a table written over its own words
 --     slot-other                            the words of a table in which one slot changed
 use Prim.Native.Nat.{ℕ, zero, suc, _+_, _-_, _*_, _/_, _%_, _≤_, _<_}
@@ -68,18 +68,25 @@ module _ (t : RegionTable) (at : ℕ) (l : List ℕ) (room : at + tableSize ≤ 
       let first : word (withTable t at l) at ≡ t .layout .width = ap (λ (p : ℕ). word (withTable t at l) p) (sym (add-zero at)) ∙ there 0 (omega arith) in
       rw (first, there 1 (omega arith), there 2 (omega arith), there 3 (omega arith), there 4 (omega arith), there 5 (omega arith), there 6 (omega arith))
 
+  -- word j of slot k
+  pub slot-there : (k j : ℕ) → k < slotCount → j < slotSize
+      → let p = at + layoutSize + slotSize * k + j in
+      word (withTable t at l) p ≡ word (regionWords (getD (t .slots) k noRegion) (word l p)) j
+  slot-there k j h hj =
+      let from = at + layoutSize + slotSize * k in
+      ap (λ (p : ℕ). word (withTable t at l) p) (let e : from + j ≡ at + (layoutSize + slotSize * k + j) = omega arith in e)
+      ∙ there (layoutSize + slotSize * k + j) (omega arith)
+      ∙ slot-word t k j (word l (at + (layoutSize + slotSize * k + j))) hj
+      ∙ ap (λ (p : ℕ). word (regionWords (getD (t .slots) k noRegion) (word l p)) j) (omega arith)
+
   region-there : (k : ℕ) → k < slotCount → regionAt (withTable t at l) (at + layoutSize + slotSize * k) ≡ getD (t .slots) k noRegion
   region-there k h =
       let g = getD (t .slots) k noRegion in
       let from = at + layoutSize + slotSize * k in
-      let w : (j : ℕ) → j < slotSize → word (withTable t at l) (from + j) ≡ word (regionWords g (word l (from + j))) j =
-      λ j hj. ap (λ (p : ℕ). word (withTable t at l) p) (let e : from + j ≡ at + (layoutSize + slotSize * k + j) = omega arith in e)
-      ∙ there (layoutSize + slotSize * k + j) (omega arith)
-      ∙ slot-word t k j (word l (at + (layoutSize + slotSize * k + j))) hj
-      ∙ ap (λ (p : ℕ). word (regionWords g (word l p)) j) (omega arith) in
+      let w : (j : ℕ) → j < slotSize → word (withTable t at l) (from + j) ≡ word (regionWords g (word l (from + j))) j = λ j hj. slot-there k j h hj in
       let first : word (withTable t at l) from ≡ word (regionWords g (word l from)) 0 =
       ap (λ (p : ℕ). word (withTable t at l) p) (sym (add-zero from)) ∙ w 0 (omega arith) ∙ ap (λ (p : ℕ). word (regionWords g (word l p)) 0) (add-zero from) in
-      rw (first, says-flag (g .placed) (word l from), w 1 (omega arith), w 2 (omega arith), w 3 (omega arith), w 4 (omega arith))
+      rw (first, says-flag (g .placed) (word l from), w 1 (omega arith), w 2 (omega arith), w 3 (omega arith), w 4 (omega arith), w 5 (omega arith))
 
   pub decoded : length (t .slots) ≡ slotCount → tableAt (withTable t at l) at ≡ t
   unfolding tableAt
@@ -107,7 +114,8 @@ region-same l at (suc zero) h = refl
 region-same l at (suc (suc zero)) h = refl
 region-same l at (suc (suc (suc zero))) h = refl
 region-same l at (suc (suc (suc (suc zero)))) h = refl
-region-same l at (suc (suc (suc (suc (suc j))))) h = absurd (let z : ⊥ = omega arith in z)
+region-same l at (suc (suc (suc (suc (suc zero))))) h = refl
+region-same l at (suc (suc (suc (suc (suc (suc j)))))) h = absurd (let z : ⊥ = omega arith in z)
 
 pub word-same : (l : List ℕ) (at i : ℕ) → i < tableSize → tableWord (tableAt l at) i (word l (at + i)) ≡ word l (at + i)
 word-same l at i h =

@@ -3,14 +3,14 @@ use Prim.Native.Nat.{ℕ, _+_, _*_}
 
 -- the version of the header
 abbrev pub version : ℕ
-version = 2
+version = 3
 
 -- words of a layout, and of a slot
 abbrev pub layoutSize : ℕ
 layoutSize = 7
 
 abbrev pub slotSize : ℕ
-slotSize = 5
+slotSize = 6
 
 -- slots of a table, and its words: the layout's, then those of each slot
 abbrev pub slotCount : ℕ

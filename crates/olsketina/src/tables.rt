@@ -23,11 +23,12 @@ fn region_at(words: &[u32], at: usize) -> Region
 {
     Region {
         placed: words[at] != 0,
+        owner: words[at + 1],
         rectangle: Rectangle {
-            column: words[at + 1],
-            row: words[at + 2],
-            columns: words[at + 3],
-            rows: words[at + 4],
+            column: words[at + 2],
+            row: words[at + 3],
+            columns: words[at + 4],
+            rows: words[at + 5],
         },
     }
 }
@@ -37,16 +38,7 @@ fn slots_at(words: &[u32], at: usize) -> [Region; SLOTS]
     requires { ⌜ at + slotSize * slotCount ≤ length (now words) ⌝ }
     ensures { λ r. ⌜ r ≡ slotsAt (now (words .entry)) at ⌝ }
 {
-    let none = Region {
-        placed: false,
-        rectangle: Rectangle {
-            column: 0,
-            row: 0,
-            columns: 0,
-            rows: 0,
-        },
-    };
-    let mut slots = [none; SLOTS];
+    let mut slots = [regions_calls::none(); SLOTS];
     let mut i: usize = 0;
     while i < SLOTS {
         slots[i] = region_at(words, at + SLOT_WORDS * i);
@@ -98,6 +90,7 @@ fn region_words(region: Region, old: u32) -> [u32; SLOT_WORDS]
     let placed = flag_word(region.placed, old);
     [
         placed,
+        region.owner,
         region.rectangle.column,
         region.rectangle.row,
         region.rectangle.columns,

@@ -10,13 +10,13 @@ use pixels::PixelSetting;
 use weights::WeightLayout;
 
 // The header's macros of the same names.
-pub(crate) const VERSION: u32 = 2;
+pub(crate) const VERSION: u32 = 3;
 
 pub(crate) const LAYOUT_WORDS: usize = 7;
 
 pub(crate) const BOX_WORDS: usize = 6;
 
-pub(crate) const SLOT_WORDS: usize = 5;
+pub(crate) const SLOT_WORDS: usize = 6;
 
 pub(crate) const SLOTS: usize = 16;
 

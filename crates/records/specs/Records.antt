@@ -1,4 +1,4 @@
--- Records of a sheet (scope paper, "The sheet program"). Another shape, an empty line or one over 120 bytes is unreadable. Assumes nothing.
+-- Records of a sheet (scope paper, "The sheet program"; change request K1). Another shape, an empty line or one over 120 bytes is unreadable. Assumes nothing.
 use Prim.Native.Nat.{ℕ}
 use mathlib.Core.Bool.{Bool, cond, _&&_}
 use mathlib.Core.List.{List, [], _∷_}
@@ -11,9 +11,9 @@ use Rattle.lines.specs.Texts.{longest, fieldsOf, sameText}
 use Rattle.lines.specs.Numbers.{numbersOf}
 use Rattle.lines.specs.Collecting.{isWhole, lineText}
 use Rattle.records.specs.declared.Record.{Record}
-use Rattle.records.specs.declared.Record.the-variants.{Frame, Stall, Cell, Unreadable}
+use Rattle.records.specs.declared.Record.the-variants.{Frame, Stall, Cell, Leave, Unreadable}
 
--- `frame`, `stall`, `cell`
+-- `frame`, `stall`, `cell`, `leave`
 abbrev pub frameWord : List ℕ
 frameWord = 102 ∷ 114 ∷ 97 ∷ 109 ∷ 101 ∷ []
 
@@ -23,6 +23,9 @@ stallWord = 115 ∷ 116 ∷ 97 ∷ 108 ∷ 108 ∷ []
 abbrev pub cellWord : List ℕ
 cellWord = 99 ∷ 101 ∷ 108 ∷ 108 ∷ []
 
+abbrev pub leaveWord : List ℕ
+leaveWord = 108 ∷ 101 ∷ 97 ∷ 118 ∷ 101 ∷ []
+
 abbrev pub at : Numbers → ℕ → ℕ
 at ns i = getD (ns .values) i 0
 
@@ -30,13 +33,17 @@ at ns i = getD (ns .values) i 0
 abbrev pub frameOf : Numbers → Record
 frameOf ns = Frame (layoutOf (at ns 0) (at ns 1) (at ns 2) (at ns 3) (at ns 4) (at ns 5) (at ns 6))
 
--- slot w0 h0 w h
+-- slot w0 h0 w h id
 abbrev pub stallOf : Numbers → Record
-stallOf ns = Stall (at ns 0) (at ns 1) (at ns 2) (at ns 3) (at ns 4)
+stallOf ns = Stall (at ns 0) (at ns 1) (at ns 2) (at ns 3) (at ns 4) (at ns 5)
 
--- slot c h w
+-- slot c h w id
 abbrev pub cellOf : Numbers → Record
-cellOf ns = Cell (at ns 0) (at ns 1) (at ns 2) (at ns 3)
+cellOf ns = Cell (at ns 0) (at ns 1) (at ns 2) (at ns 3) (at ns 4)
+
+-- slot id
+abbrev pub leaveOf : Numbers → Record
+leaveOf ns = Leave (at ns 0) (at ns 1)
 
 -- a word is a name, and so many numbers stand behind it
 unfoldable pub isNamed : List ℕ → Numbers → List ℕ → ℕ → Bool
@@ -44,7 +51,10 @@ isNamed word ns name count = eqb (ns .count) count && sameText word name
 
 unfoldable pub byWord : List ℕ → Numbers → Record
 byWord word ns =
-    cond (isNamed word ns frameWord 7) (frameOf ns) (cond (isNamed word ns stallWord 5) (stallOf ns) (cond (isNamed word ns cellWord 4) (cellOf ns) Unreadable))
+    cond (isNamed word ns frameWord 7) (frameOf ns)
+    (cond (isNamed word ns stallWord 6) (stallOf ns)
+    (cond (isNamed word ns cellWord 5) (cellOf ns)
+    (cond (isNamed word ns leaveWord 2) (leaveOf ns) Unreadable)))
 
 unfoldable pub byFields : List (List ℕ) → Record
 byFields [] = Unreadable

@@ -1,16 +1,18 @@
-// One line of a sheet, read as a record (scope paper, "The sheet program").
+// One line of a sheet, read as a record (scope paper, "The sheet program"; change request K1).
 ghost use mathlib.Core.Path.{_≡_};
 ghost use Rattle.lines.specs.Texts.{fieldsOf};
-ghost use Rattle.records.specs.Records.{frameOf, stallOf, cellOf, isNamed, byWord, byFields, lineRecord, recordOf};
+ghost use Rattle.records.specs.Records.{frameOf, stallOf, cellOf, leaveOf, isNamed, byWord, byFields, lineRecord, recordOf};
 use layout::CubeLayout;
 use lines::Line;
 use lines::Numbers;
 
-// A record: a cube's layout; a region's slot, first column and row, columns and rows; an element of a region by slot, channel, row and column; or no record.
+// A record: a cube's layout; a region's slot, first column and row, columns and rows, and its owner's id; an element of a region by slot, channel, row and
+// column, and the id; a region that is left, by its slot and the id; or no record.
 pub enum Record {
     Frame(CubeLayout),
-    Stall(u32, u32, u32, u32, u32),
-    Cell(u32, u32, u32, u32),
+    Stall(u32, u32, u32, u32, u32, u32),
+    Cell(u32, u32, u32, u32, u32),
+    Leave(u32, u32),
     Unreadable,
 }
 
@@ -36,7 +38,7 @@ fn stall(ns: Numbers) -> Record
     ensures { λ r. ⌜ r ≡ stallOf ns ⌝ }
 {
     let v = ns.values;
-    Record::Stall(v[0], v[1], v[2], v[3], v[4])
+    Record::Stall(v[0], v[1], v[2], v[3], v[4], v[5])
 }
 
 // An element of a region.
@@ -44,7 +46,15 @@ fn cell(ns: Numbers) -> Record
     ensures { λ r. ⌜ r ≡ cellOf ns ⌝ }
 {
     let v = ns.values;
-    Record::Cell(v[0], v[1], v[2], v[3])
+    Record::Cell(v[0], v[1], v[2], v[3], v[4])
+}
+
+// A region that is left.
+fn leave(ns: Numbers) -> Record
+    ensures { λ r. ⌜ r ≡ leaveOf ns ⌝ }
+{
+    let v = ns.values;
+    Record::Leave(v[0], v[1])
 }
 
 // Whether a word is a name, and so many numbers stand behind it.
@@ -64,11 +74,14 @@ fn by_word(word: &[u8], ns: Numbers) -> Record
     if is_named(word, ns, b"frame", 7) {
         return frame(ns);
     }
-    if is_named(word, ns, b"stall", 5) {
+    if is_named(word, ns, b"stall", 6) {
         return stall(ns);
     }
-    if is_named(word, ns, b"cell", 4) {
+    if is_named(word, ns, b"cell", 5) {
         return cell(ns);
+    }
+    if is_named(word, ns, b"leave", 2) {
+        return leave(ns);
     }
     Record::Unreadable
 }

@@ -2,7 +2,7 @@
 --     requireAt-true, requireAt-false     what one check answers
 --     inOrder-next, inOrder-stop          the first check of a list held, or failed
 --     inOrder-passed, inOrder-refused     the first part of a list passed, or was refused
---     inOrder-same                        two first parts with one answer
+--     inOrder-same, inOrder-then          two first parts with one answer, and two last parts
 --     inOrder-held, inOrder-rest          an accepted list: its first check held, and the rest is accepted
 --     inOrder-all, requireAt-held         an accepted list: every check held
 --     leaves-done, leaves-before          what a call leaves, by its answer
@@ -81,6 +81,13 @@ inOrder-back xs ys e = sym (inOrder-passed xs ys (inOrder-front xs ys e)) ∙ e
 pub inOrder-same : (xs ys zs : List Answer) (a : Answer) → inOrder xs ≡ a → inOrder ys ≡ a → inOrder (xs ++ zs) ≡ inOrder (ys ++ zs)
 inOrder-same xs ys zs Accepted p q = inOrder-passed xs zs p ∙ sym (inOrder-passed ys zs q)
 inOrder-same xs ys zs (Refused r i) p q = inOrder-refused xs zs p ∙ sym (inOrder-refused ys zs q)
+
+-- the same checks, followed by two lists of checks with one answer
+pub inOrder-then : (xs ys zs : List Answer) → inOrder ys ≡ inOrder zs → inOrder (xs ++ ys) ≡ inOrder (xs ++ zs)
+unfolding inOrder
+inOrder-then [] ys zs e = e
+inOrder-then (Accepted ∷ xs) ys zs e = inOrder-then xs ys zs e
+inOrder-then (Refused r i ∷ xs) ys zs e = refl
 
 -- ---- every check of an accepted list held
 unfoldable pub Held : List Answer → Type 0

@@ -29,6 +29,7 @@ pub enum Refusal {
     PixelStrides,
     PixelOutside,
     ScriptLine,
+    OwnerId,
 }
 
 // Accepted, or refused with the index at fault (the paper's "place").
@@ -72,6 +73,7 @@ pub fn code(r: Refusal) -> u32
         Refusal::PixelStrides => 22,
         Refusal::PixelOutside => 23,
         Refusal::ScriptLine => 24,
+        Refusal::OwnerId => 25,
     }
 }
 

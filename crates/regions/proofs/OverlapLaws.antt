@@ -83,33 +83,34 @@ module _ (test : ℕ → Bool) where
 
 record Stands (slots : List Slot) (w h : ℕ) : Type 0 where
   number : ℕ
+  id : ℕ
   other : Rectangle
-  there : slotAt slots number ≡ filled other
+  there : slotAt slots number ≡ filled id other
   within : rectangleHas other w h ≡ true
 
 further : (s : Slot) (slots : List Slot) (w h : ℕ) → Stands slots w h → Stands (s ∷ slots) w h
 unfolding slotAt
-further s slots w h t = record { number = suc (t .number); other = t .other; there = t .there; within = t .within }
+further s slots w h t = record { number = suc (t .number); id = t .id; other = t .other; there = t .there; within = t .within }
 
 occupied-stands : (slots : List Slot) (w h : ℕ) → occupied slots w h ≡ true → Stands slots w h
 unfolding occupied slotAt
 occupied-stands [] w h e = absurd (let z : _≡_ {A = ℕ} 0 1 = cc in omega arith)
 occupied-stands (empty ∷ slots) w h e = further empty slots w h (occupied-stands slots w h e)
-occupied-stands (filled f ∷ slots) w h e =
+occupied-stands (filled id f ∷ slots) w h e =
     ⊎-elim
-    (λ t. record { number = 0; other = f; there = refl; within = t })
-    (λ t. further (filled f) slots w h (occupied-stands slots w h t))
+    (λ t. record { number = 0; id = id; other = f; there = refl; within = t })
+    (λ t. further (filled id f) slots w h (occupied-stands slots w h t))
     (or-cases (rectangleHas f w h) (occupied slots w h) e)
 
-pub stands-occupied : (slots : List Slot) (n : ℕ) (f : Rectangle) (w h : ℕ) → slotAt slots n ≡ filled f → rectangleHas f w h ≡ true → occupied slots w h ≡ true
+pub stands-occupied : (slots : List Slot) (n id : ℕ) (f : Rectangle) (w h : ℕ) → slotAt slots n ≡ filled id f → rectangleHas f w h ≡ true → occupied slots w h ≡ true
 unfolding occupied slotAt
-stands-occupied [] n f w h e t = absurd (let z : _≡_ {A = ℕ} 0 1 = cc in omega arith)
-stands-occupied (empty ∷ slots) zero f w h e t = absurd (let z : _≡_ {A = ℕ} 0 1 = cc in omega arith)
-stands-occupied (empty ∷ slots) (suc n) f w h e t = stands-occupied slots n f w h e t
-stands-occupied (filled f′ ∷ slots) zero f w h e t =
+stands-occupied [] n id f w h e t = absurd (let z : _≡_ {A = ℕ} 0 1 = cc in omega arith)
+stands-occupied (empty ∷ slots) zero id f w h e t = absurd (let z : _≡_ {A = ℕ} 0 1 = cc in omega arith)
+stands-occupied (empty ∷ slots) (suc n) id f w h e t = stands-occupied slots n id f w h e t
+stands-occupied (filled id′ f′ ∷ slots) zero id f w h e t =
     let same : f′ ≡ f = cc in
     rw (ap (λ (r : Rectangle). rectangleHas r w h) same ∙ t)
-stands-occupied (filled f′ ∷ slots) (suc n) f w h e t = rw (stands-occupied slots n f w h e t) (or-true (rectangleHas f′ w h))
+stands-occupied (filled id′ f′ ∷ slots) (suc n) id f w h e t = rw (stands-occupied slots n id f w h e t) (or-true (rectangleHas f′ w h))
 
 -- ---- overlapping
 
@@ -129,6 +130,7 @@ module _ (slots : List Slot) (g : Rectangle) where
         h = b .at;
         mine = in-has g (a .at) (b .at) (record { column-ge = a .ge; column-lt = a .lt; row-ge = b .ge; row-lt = b .lt });
         number = s .number;
+        id = s .id;
         other = s .other;
         there = s .there;
         theirs = s .within;
@@ -138,11 +140,11 @@ module _ (slots : List Slot) (g : Rectangle) where
   unfolding overlaps
   shared-overlaps s =
       let i = has-in g (s .w) (s .h) (s .mine) in
-      let t = stands-occupied slots (s .number) (s .other) (s .w) (s .h) (s .there) (s .theirs) in
+      let t = stands-occupied slots (s .number) (s .id) (s .other) (s .w) (s .h) (s .there) (s .theirs) in
       some-any column-occupied (g .column) (g .columns) (s .w) (i .column-ge) (i .column-lt)
       (some-any (λ (h : ℕ). occupied slots (s .w) h) (g .row) (g .rows) (s .h) (i .row-ge) (i .row-lt) t)
 
-  pub overlaps-apart : overlaps slots g ≡ false → (n : ℕ) (f : Rectangle) (w h : ℕ) → slotAt slots n ≡ filled f → InRectangle f w h → InRectangle g w h → ⊥
-  overlaps-apart e n f w h there theirs mine =
-      let yes-it-does : overlaps slots g ≡ true = shared-overlaps (record { w = w; h = h; mine = in-has g w h mine; number = n; other = f; there = there; theirs = in-has f w h theirs }) in
+  pub overlaps-apart : overlaps slots g ≡ false → (n id : ℕ) (f : Rectangle) (w h : ℕ) → slotAt slots n ≡ filled id f → InRectangle f w h → InRectangle g w h → ⊥
+  overlaps-apart e n id f w h there theirs mine =
+      let yes-it-does : overlaps slots g ≡ true = shared-overlaps (record { w = w; h = h; mine = in-has g w h mine; number = n; id = id; other = f; there = there; theirs = in-has f w h theirs }) in
       let z : _≡_ {A = ℕ} 0 1 = cc in omega arith

@@ -41,17 +41,17 @@ module _ (q : CubeLayout) (box : ElementBox) (buffer buffer′ : List ℕ)
 
 -- ---- two reads
 
-module _ (n : ℕ) (b : ElementBox) (t t′ : RegionTable) (buffer buffer′ : List ℕ) (xs xs′ : List ℤ) (same : SameRead n b t t′ buffer buffer′ xs xs′) where
-  pub same-answer : readAnswer t n b (length xs) (length buffer) ≡ readAnswer t′ n b (length xs′) (length buffer′)
+module _ (n : ℕ) (b : ElementBox) (t t′ : RegionTable) (id id′ : ℕ) (buffer buffer′ : List ℕ) (xs xs′ : List ℤ) (same : SameRead n b t t′ id id′ buffer buffer′ xs xs′) where
+  pub same-answer : readAnswer t n id b (length xs) (length buffer) ≡ readAnswer t′ n id′ b (length xs′) (length buffer′)
   unfolding readAnswer readChecks regionBoxChecks slotChecks
-  same-answer = rw (same .slot, same .layout, same .buffers, same .lent)
+  same-answer = rw (same .slot, same .layout, same .given, same .buffers, same .lent)
 
-  pub same-elements : readAnswer t n b (length xs) (length buffer) ≡ Accepted → readElements t n b buffer xs ≡ readElements t′ n b buffer′ xs′
+  pub same-elements : readAnswer t n id b (length xs) (length buffer) ≡ Accepted → readElements t n id b buffer xs ≡ readElements t′ n id′ b buffer′ xs′
   unfolding readElements readAnswer
   same-elements a =
-      let box = regionBox (accessOf t n) b in
-      let box′ = regionBox (accessOf t′ n) b in
-      let v = read-accepted (accessOf t n) b (length xs) (length buffer) a in
+      let box = regionBox (accessOf t n id) b in
+      let box′ = regionBox (accessOf t′ n id′) b in
+      let v = read-accepted (accessOf t n id) b (length xs) (length buffer) a in
       let moved : boxElements (t .layout) box buffer′ ≡ boxElements (t′ .layout) box′ buffer′ = rw (same .slot, same .layout) in
       leaves-done (boxElements (t .layout) box buffer) xs a
       ∙ box-same (t .layout) box buffer buffer′ (same .bytes) (v .region .bounds .box)

@@ -1,16 +1,16 @@
 -- What accepted checks of a placing, a slot and a box in a region tell. By taking the lists of checks apart. Assumes nothing.
 --     rectangle-columns, rectangle-rows    the spans of a rectangle in the cube
 --     Placing, place-accepted              what an accepted placing tells
---     ValidSlot, slot-accepted             what accepted checks 1 to 4, 8 tell
+--     ValidSlot, slot-accepted             what accepted checks 1 to 4, 8, 25 tell
 --     ValidBounds, bounds-accepted         what accepted check 9 of a box in a rectangle tells
---     ValidBox, box-accepted               what accepted checks 1 to 4, 8, 9 tell
+--     ValidBox, box-accepted               what accepted checks 1 to 4, 8, 25, 9 tell
 use Prim.Native.Nat.{ℕ, _+_, _<_}
 use native.Mathlib.Omega.{arith}
-use mathlib.Core.Path.{_≡_, refl}
+use mathlib.Core.Path.{_≡_, refl, sym, ap, _∙_}
 use mathlib.Core.Bool.{true, false}
 use mathlib.Core.List.{[], _∷_}
 use lib.Dec.{ltb}
-use borrow.Author.Tests.{ltb-true, not-true}
+use borrow.Author.Tests.{ltb-true, eqb-true, not-true}
 use Rattle.general.proofs.TestLaws.{and-left, and-right, and-all}
 use Rattle.refusal.specs.declared.Answer.the-variants.{Accepted}
 use Rattle.refusal.specs.Checks.{inOrder}
@@ -23,7 +23,7 @@ use Rattle.layout.proofs.Valid.{Valid, valid}
 use Rattle.layout.proofs.BoxLaws.{Span, span-inside, BoxValid}
 use Rattle.regions.specs.declared.Rectangle.{Rectangle}
 use Rattle.regions.specs.Slots.{Slot, empty, filled, rectangleInside, overlaps}
-use Rattle.regions.specs.Rules.{Access, isFilled, rectangleOf, slotNamed, rectangleNamed, boxInRectangle, cubeBox, placeChecks, slotChecks, boundsChecks, regionBoxChecks}
+use Rattle.regions.specs.Rules.{Access, isFilled, rectangleOf, idOf, idValid, slotNamed, rectangleNamed, boxInRectangle, cubeBox, placeChecks, slotChecks, boundsChecks, regionBoxChecks}
 
 -- ---- rectangles and boxes
 module _ (q : CubeLayout) (g : Rectangle) where
@@ -39,14 +39,14 @@ module _ (q : CubeLayout) (g : Rectangle) where
 inner : (a n s b m : ℕ) → Span a n s → Span b m n → Span (a + b) m s
 inner a n s b m o i = record { some = i .some; fit = omega (arith, o .fit, i .fit) }
 
-filled-slot : (s : Slot) → isFilled s ≡ true → s ≡ filled (rectangleOf s)
-unfolding isFilled rectangleOf
+filled-slot : (s : Slot) → isFilled s ≡ true → s ≡ filled (idOf s) (rectangleOf s)
+unfolding isFilled rectangleOf idOf
 filled-slot empty e = absurd (let z : _≡_ {A = ℕ} 0 1 = cc in omega arith)
-filled-slot (filled g) e = refl
+filled-slot (filled id g) e = refl
 
--- ---- place: 1 to 4, 8, 9, 10
+-- ---- place: 1 to 4, 25, 8, 9, 10
 
--- the layout is valid, the slot is one of the sixteen and empty, the rectangle is in the cube and overlaps none
+-- the layout is valid, the id an owner's, the slot is one of the sixteen and empty, the rectangle is in the cube and overlaps none
 pub record Placing (a : Access) (g : Rectangle) : Type 0 where
   pub layout : Valid (a .layout)
   pub number : a .number < 16
@@ -58,33 +58,35 @@ pub place-accepted : (a : Access) (g : Rectangle) → inOrder (placeChecks a g) 
 unfolding placeChecks Held
 place-accepted a g e =
     let held = inOrder-all _ (inOrder-back (layoutChecks (a .layout)) _ e) in
-    let free = requireAt-held _ _ _ (held .0) in
+    let free = requireAt-held _ _ _ (held .1 .0) in
     record {
       layout = valid (a .layout) (inOrder-front (layoutChecks (a .layout)) _ e);
       number = ltb-true (a .number) 16 (and-left _ _ free);
       vacant = not-true _ (and-right (ltb (a .number) 16) _ free);
-      inside = requireAt-held _ _ _ (held .1 .0);
-      apart = not-true _ (requireAt-held _ _ _ (held .1 .1 .0));
+      inside = requireAt-held _ _ _ (held .1 .1 .0);
+      apart = not-true _ (requireAt-held _ _ _ (held .1 .1 .1 .0));
     }
 
--- ---- a slot: 1 to 4, 8
+-- ---- a slot: 1 to 4, 8, 25
 
--- the layout is valid, the slot is one of the sixteen and filled
+-- the layout is valid, the slot is one of the sixteen and filled with a region of the owner whose id is given
 pub record ValidSlot (a : Access) : Type 0 where
   pub checked : inOrder (layoutChecks (a .layout)) ≡ Accepted
   pub layout : Valid (a .layout)
   pub number : a .number < 16
-  pub placed : slotNamed a ≡ filled (rectangleNamed a)
+  pub placed : slotNamed a ≡ filled (a .id) (rectangleNamed a)
 
 pub slot-accepted : (a : Access) → inOrder (slotChecks a) ≡ Accepted → ValidSlot a
 unfolding slotChecks Held
 slot-accepted a e =
-    let there = requireAt-held _ _ _ (inOrder-all _ (inOrder-back (layoutChecks (a .layout)) _ e) .0) in
+    let held = inOrder-all _ (inOrder-back (layoutChecks (a .layout)) _ e) in
+    let there = requireAt-held _ _ _ (held .0) in
+    let same : a .id ≡ idOf (slotNamed a) = eqb-true _ _ (and-right (idValid (a .id)) _ (requireAt-held _ _ _ (held .1 .0))) in
     record {
       checked = inOrder-front (layoutChecks (a .layout)) _ e;
       layout = valid (a .layout) (inOrder-front (layoutChecks (a .layout)) _ e);
       number = ltb-true (a .number) 16 (and-left _ _ there);
-      placed = filled-slot (slotNamed a) (and-right (ltb (a .number) 16) _ there);
+      placed = filled-slot (slotNamed a) (and-right (ltb (a .number) 16) _ there) ∙ ap (λ (id : ℕ). filled id (rectangleNamed a)) (sym same);
     }
 
 -- ---- a box in a rectangle: 9
@@ -119,7 +121,7 @@ module _ (q : CubeLayout) (g : Rectangle) (b : ElementBox) where
   unfolding Held
   bounds-accepted e = let held = inOrder-all _ e in bounds-valid (requireAt-held _ _ _ (held .0)) (requireAt-held _ _ _ (held .1 .0))
 
--- ---- a box in a region: 9 after 1 to 4, 8
+-- ---- a box in a region: 9 after 1 to 4, 8, 25
 pub record ValidBox (a : Access) (b : ElementBox) : Type 0 where
   pub slot : ValidSlot a
   pub bounds : ValidBounds (a .layout) (rectangleNamed a) b

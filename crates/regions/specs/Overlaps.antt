@@ -13,6 +13,7 @@ pub record Shared (slots : List Slot) (g : Rectangle) : Type 0 where
   pub h : ℕ
   pub mine : rectangleHas g w h ≡ true
   pub number : ℕ
+  pub id : ℕ
   pub other : Rectangle
-  pub there : slotAt slots number ≡ filled other
+  pub there : slotAt slots number ≡ filled id other
   pub theirs : rectangleHas other w h ≡ true

@@ -13,14 +13,14 @@ use Rattle.regions.specs.declared.RegionTable.{RegionTable}
 abbrev pub rectangle : ℕ → ℕ → ℕ → ℕ → Rectangle
 rectangle column row columns rows = record { column = column; row = row; columns = columns; rows = rows }
 
--- a slot: empty, or filled with a region's rectangle, which reaches over all channels (the paper's "stall")
+-- a slot: empty, or filled with a region: its owner's id, and its rectangle, which reaches over all channels (the paper's "stall")
 pub data Slot : Type 0 where
   empty : Slot
-  filled : Rectangle → Slot
+  filled : (id : ℕ) → Rectangle → Slot
 
--- the slot that a struct of the table stands for: the rectangle of one that is not placed means nothing
+-- the slot that a struct of the table stands for: the id and the rectangle of one that is not placed mean nothing
 unfoldable pub slotOf : Region → Slot
-slotOf r = cond (r .placed) (filled (r .rectangle)) empty
+slotOf r = cond (r .placed) (filled (r .owner) (r .rectangle)) empty
 
 -- the slots of a table
 unfoldable pub slotsOf : RegionTable → List Slot
@@ -38,7 +38,7 @@ rectangleHas g w h = spanHas (g .column) (g .columns) w && spanHas (g .row) (g .
 unfoldable pub occupied : List Slot → ℕ → ℕ → Bool
 occupied [] w h = false
 occupied (empty ∷ slots) w h = occupied slots w h
-occupied (filled g ∷ slots) w h = rectangleHas g w h || occupied slots w h
+occupied (filled id g ∷ slots) w h = rectangleHas g w h || occupied slots w h
 
 -- some number of the `count` from `first` on passes the test
 unfoldable pub anyFrom : (ℕ → Bool) → ℕ → ℕ → Bool

@@ -10,10 +10,11 @@ pub struct Rectangle {
     pub rows: u32,
 }
 
-// A slot of the table: whether a region is placed in it, and the region's rectangle, over all channels (the scope paper's "stall"). The rectangle of
-// a slot that is not placed means nothing.
+// A slot of the table: whether a region is placed in it, the id of the region's owner, 1 to 65535 (the "pupil's number"), and its rectangle, over all
+// channels (the scope paper's "stall"). The id and the rectangle of a slot that is not placed mean nothing.
 pub struct Region {
     pub placed: bool,
+    pub owner: u32,
     pub rectangle: Rectangle,
 }
 

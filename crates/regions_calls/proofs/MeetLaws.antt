@@ -52,8 +52,8 @@ module _ (a n b m : ℕ) where
   common-meet x p1 p2 p3 p4 =
       and-both (and-both (and-both (le-leb 1 n (omega arith)) (le-leb 1 m (omega arith))) (lt-ltb b (a + n) (omega arith))) (lt-ltb a (b + m) (omega arith))
 
-module _ (f g : Rectangle) where
-  meets-shared : (slots : List Slot) (n : ℕ) → slotAt slots n ≡ filled f → slotMeets (filled f) g ≡ true → Shared slots g
+module _ (id : ℕ) (f g : Rectangle) where
+  meets-shared : (slots : List Slot) (n : ℕ) → slotAt slots n ≡ filled id f → slotMeets (filled id f) g ≡ true → Shared slots g
   unfolding slotMeets
   meets-shared slots n there e =
       let c = meet-common (f .column) (f .columns) (g .column) (g .columns) (and-left _ _ e) in
@@ -63,12 +63,13 @@ module _ (f g : Rectangle) where
         h = r .at;
         mine = in-has g (c .at) (r .at) (record { column-ge = c .second-ge; column-lt = c .second-lt; row-ge = r .second-ge; row-lt = r .second-lt });
         number = n;
+        id = id;
         other = f;
         there = there;
         theirs = in-has f (c .at) (r .at) (record { column-ge = c .first-ge; column-lt = c .first-lt; row-ge = r .first-ge; row-lt = r .first-lt });
       }
 
-  shared-meets : (w h : ℕ) → InRectangle f w h → InRectangle g w h → slotMeets (filled f) g ≡ true
+  shared-meets : (w h : ℕ) → InRectangle f w h → InRectangle g w h → slotMeets (filled id f) g ≡ true
   unfolding slotMeets
   shared-meets w h i j =
       and-both
@@ -76,9 +77,9 @@ module _ (f g : Rectangle) where
       (common-meet (f .row) (f .rows) (g .row) (g .rows) h (i .row-ge) (i .row-lt) (j .row-ge) (j .row-lt))
 
 -- a filled slot is one of the list's
-filled-lt : (slots : List Slot) (n : ℕ) (f : Rectangle) → slotAt slots n ≡ filled f → n < length slots
+filled-lt : (slots : List Slot) (n id : ℕ) (f : Rectangle) → slotAt slots n ≡ filled id f → n < length slots
 unfolding slotAt
-filled-lt slots n f e = elim (decLt n (length slots)) [
+filled-lt slots n id f e = elim (decLt n (length slots)) [
   | yes h ↦ h
   | no g ↦ let past : getD slots n empty ≡ empty = List·getD-eq-default slots empty (omega arith) in absurd (let z : _≡_ {A = ℕ} 0 1 = cc in omega arith)
 ]
@@ -90,14 +91,14 @@ module _ (slots : List Slot) (g : Rectangle) where
     where
       go : (s : Slot) → slotAt slots n ≡ s → slotMeets s g ≡ true → overlaps slots g ≡ true
       go empty i t = absurd (let z : _≡_ {A = ℕ} 0 1 = cc in omega arith)
-      go (filled f) i t = shared-overlaps slots g (meets-shared f g slots n i t)
+      go (filled id f) i t = shared-overlaps slots g (meets-shared id f g slots n i t)
 
   pub none-meets : ((n : ℕ) → n < length slots → slotMeets (slotAt slots n) g ≡ false) → overlaps slots g ≡ false
   none-meets f = fails (overlaps slots g) (λ e. go (overlaps-shared slots g e))
     where
       go : Shared slots g → ⊥
       go s =
-          let yes-it-does = shared-meets (s .other) g (s .w) (s .h) (has-in (s .other) (s .w) (s .h) (s .theirs)) (has-in g (s .w) (s .h) (s .mine)) in
-          let does-not = f (s .number) (filled-lt slots (s .number) (s .other) (s .there)) in
+          let yes-it-does = shared-meets (s .id) (s .other) g (s .w) (s .h) (has-in (s .other) (s .w) (s .h) (s .theirs)) (has-in g (s .w) (s .h) (s .mine)) in
+          let does-not = f (s .number) (filled-lt slots (s .number) (s .id) (s .other) (s .there)) in
           let l = ap (λ (s : Slot). slotMeets s g) (s .there) in
           let z : _≡_ {A = ℕ} 0 1 = cc in omega arith

@@ -1,6 +1,6 @@
--- The theorem about the whole input (scope paper, "The sheet program"). `rowsOfParts` folds the very definitions that the contracts of `begin`, `feed` and
--- `finish` cite, over parts of any number and size, empty ones too; `sheet` has no parts and no state, only lines and records. Each proof cites
--- CallLaws.antt, RowLaws.antt or SheetLaws.antt. Assumes nothing.
+-- The theorem about the whole input (scope paper, "The sheet program"; change request K1). `rowsOfParts` folds the very definitions that the contracts of
+-- `begin`, `feed` and `finish` cite, over parts of any number and size, empty ones too; `sheet` has no parts and no state, only lines and records. Each
+-- proof cites CallLaws.antt, RowLaws.antt or SheetLaws.antt. Assumes nothing.
 use Prim.Native.Nat.{ℕ, _+_, _^_, _≤_, _<_}
 use native.Mathlib.Nat.{le-refl}
 use mathlib.Core.Path.{_≡_}
@@ -11,12 +11,15 @@ use Rattle.refusal.specs.declared.Refusal.{Refusal}
 use Rattle.refusal.specs.declared.Refusal.the-variants.{Size}
 use Rattle.refusal.specs.declared.Answer.the-variants.{Accepted, Refused}
 use Rattle.layout.specs.declared.CubeLayout.{CubeLayout}
+use Rattle.layout.specs.Geometry.{cubeExtent}
+use Rattle.layout.specs.Contents.{zerosOf}
 use Rattle.lines.specs.Texts.{linesOf}
 use Rattle.records.specs.declared.Record.{Record}
-use Rattle.records.specs.declared.Record.the-variants.{Frame, Stall, Cell}
-use Rattle.regions.specs.Calls.{emptyTable}
+use Rattle.records.specs.declared.Record.the-variants.{Frame, Stall, Cell, Leave}
+use Rattle.regions.specs.Rules.{regionBox, wholeRegion}
+use Rattle.regions.specs.Calls.{noRegion, emptyTable, withSlot, releaseAnswer, releaseTable}
 use Rattle.script.specs.declared.Sheet.{Sheet}
-use Rattle.script.specs.Rows.{Desk, recordAnswer, valueAfter, deskAfter}
+use Rattle.script.specs.Rows.{Desk, onStall, recordAnswer, valueAfter, deskAfter}
 use Rattle.script.specs.Sheets.{sheet, lineNumber}
 use Rattle.script.specs.Output.{output, outputOfParts}
 use Rattle.script.specs.Feed.{startSheet, fed, partFed, wholePart, rowsOfParts}
@@ -60,7 +63,24 @@ refused-changes-nothing d r e = (row.refused-desk d r e, row.refused-value d r e
 pub frame-empties : (d : Desk) (q : CubeLayout) → recordAnswer d (Frame q) ≡ Accepted → deskAfter d (Frame q) ≡ record { framed = true; table = emptyTable q }
 frame-empties = whole.frame-done
 
--- before an accepted frame a stall or a cell gets 1, whatever its numbers
+-- an accepted leave empties its slot; the frame and every other slot stay
+pub leave-empties : (d : Desk) (slot id : ℕ) → recordAnswer d (Leave slot id) ≡ Accepted
+    → deskAfter d (Leave slot id) ≡ record { framed = d .framed; table = withSlot (d .table) slot noRegion }
+leave-empties = whole.leave-done
+
+-- and its value is the count of elements that a release of that stall sets to 0 (`releaseBuffer`)
+pub leave-counts : (d : Desk) (slot id : ℕ) → recordAnswer d (Leave slot id) ≡ Accepted
+    → valueAfter d (Leave slot id) ≡ length (zerosOf (regionBox (onStall d slot id) (wholeRegion (onStall d slot id))))
+leave-counts = whole.leave-value
+
+-- after a frame a leave answers what a release with a buffer long enough answers, and leaves its table
+pub leave-is-release : (d : Desk) → d .framed ≡ true → (slot id len : ℕ) → d .table .layout .start + cubeExtent (d .table .layout) ≤ len
+    → (recordAnswer d (Leave slot id) ≡ releaseAnswer (d .table) slot id len) × (deskAfter d (Leave slot id) .table ≡ releaseTable (d .table) slot id len)
+leave-is-release d f slot id len room = (whole.leave-answer d f slot id len room, whole.leave-table d f slot id len room)
+
+-- before an accepted frame a stall, a cell or a leave gets 1, whatever its numbers
 pub before-a-frame : (d : Desk) → d .framed ≡ false
-    → ((slot w0 h0 w h : ℕ) → recordAnswer d (Stall slot w0 h0 w h) ≡ Refused Size 0) × ((slot c h w : ℕ) → recordAnswer d (Cell slot c h w) ≡ Refused Size 0)
-before-a-frame d f = (whole.stall-first d f, whole.cell-first d f)
+    → ((slot w0 h0 w h id : ℕ) → recordAnswer d (Stall slot w0 h0 w h id) ≡ Refused Size 0)
+    × ((slot c h w id : ℕ) → recordAnswer d (Cell slot c h w id) ≡ Refused Size 0)
+    × ((slot id : ℕ) → recordAnswer d (Leave slot id) ≡ Refused Size 0)
+before-a-frame d f = (whole.stall-first d f, whole.cell-first d f, whole.leave-first d f)

@@ -1,9 +1,9 @@
 -- Rows and desks: as many rows as lines, numbered one after another; a refused record changes nothing. By induction on the lines. Assumes nothing.
---     rows-count                    as many rows as lines
---     rows-number                   their numbers
---     refused-desk, refused-value   what a refused record leaves
---     accepted-desk                 what an accepted record leaves
---     unframed, framed-is           a record before a frame, and after one
+--     rows-count                         as many rows as lines
+--     rows-number                        their numbers
+--     refused-desk, refused-value        what a refused record leaves
+--     accepted-desk, accepted-value      what an accepted record leaves
+--     unframed, framed-is                a record before a frame, and after one
 use Prim.Native.Nat.{ℕ, zero, suc, _+_, _<_}
 use native.Mathlib.Nat.{not-suc-le-zero, le-of-suc-le-suc}
 use native.Mathlib.Omega.{arith}
@@ -44,6 +44,10 @@ module _ (d : Desk) (r : Record) where
   pub accepted-desk : recordAnswer d r ≡ Accepted → deskAfter d r ≡ recordDone d r
   unfolding deskAfter
   accepted-desk e = leaves-done (recordDone d r) d e
+
+  pub accepted-value : recordAnswer d r ≡ Accepted → valueAfter d r ≡ recordValue d r
+  unfolding valueAfter
+  accepted-value e = leaves-done (recordValue d r) 0 e
 
 module _ (d : Desk) (a : Answer) where
   pub unframed : d .framed ≡ false → framedOr d a ≡ Refused Size 0

@@ -5,9 +5,10 @@
 --     frame-refused, frame-valid                    a frame, by its extent
 --     stall-unframed, stall-refused, stall-placed   a stall, by its placing
 --     cell-unframed, cell-refused, cell-at          a cell, by its position
+--     leave-unframed .. leave-counted               a leave, by its stall's count
 --     count-le, count-all-le                        the elements of a placed region, counted in 64 bits
 --     line-fed                                      a line that has ended
-use Prim.Native.Nat.{ℕ, _*_, _≤_}
+use Prim.Native.Nat.{ℕ, _*_, _≤_, _<_}
 use native.Mathlib.Nat.{mul-le-mul}
 use native.Mathlib.Omega.{arith}
 use mathlib.Core.Path.{_≡_, refl, sym, ap, _∙_}
@@ -24,15 +25,15 @@ use Rattle.layout.specs.Calls.{extentQuantity}
 use Rattle.lines.specs.declared.Lines.{Lines}
 use Rattle.lines.specs.Collecting.{nextLines}
 use Rattle.records.specs.declared.Record.{Record}
-use Rattle.records.specs.declared.Record.the-variants.{Frame, Stall, Cell, Unreadable}
+use Rattle.records.specs.declared.Record.the-variants.{Frame, Stall, Cell, Leave, Unreadable}
 use Rattle.records.specs.Records.{lineRecord}
 use Rattle.regions.specs.declared.RegionTable.{RegionTable}
 use Rattle.regions.specs.Slots.{rectangle}
 use Rattle.regions.specs.Rules.{accessOf}
-use Rattle.regions.specs.Calls.{emptyTable, placeAnswer, placeTable, regionPosition}
-use Rattle.regions.proofs.RuleLaws.{place-accepted, rectangle-columns, rectangle-rows}
+use Rattle.regions.specs.Calls.{noRegion, emptyTable, withSlot, placeAnswer, placeTable, regionPosition, regionCount}
+use Rattle.regions.proofs.RuleLaws.{place-accepted, rectangle-columns, rectangle-rows, box-accepted}
 use Rattle.script_calls.specs.declared.After.{After}
-use Rattle.script.specs.Rows.{Desk, recordAnswer, recordValue, recordDone, valueAfter, deskAfter}
+use Rattle.script.specs.Rows.{Desk, onStall, recordAnswer, recordValue, recordDone, valueAfter, deskAfter}
 use Rattle.script_calls.specs.Steps.{afterRecord, refusedRecord, desk}
 use Rattle.script.specs.declared.Sheet.{Sheet}
 use Rattle.script.specs.declared.Fed.{Fed}
@@ -73,51 +74,74 @@ module _ (d : Desk) where
     frame-valid e = let g = quantity-given _ _ _ e in record-done (Frame q) (g .0) (sym (g .1))
 
   -- ---- stall
-  module _ (slot w0 h0 w h : ℕ) where
-    pub stall-unframed : d .framed ≡ false → refusedRecord d Size 0 ≡ afterRecord d (Stall slot w0 h0 w h)
+  module _ (slot w0 h0 w h id : ℕ) where
+    pub stall-unframed : d .framed ≡ false → refusedRecord d Size 0 ≡ afterRecord d (Stall slot w0 h0 w h id)
     unfolding recordAnswer
-    stall-unframed e = record-refused (Stall slot w0 h0 w h) (unframed d _ e)
+    stall-unframed e = record-refused (Stall slot w0 h0 w h id) (unframed d _ e)
 
     module _ (f : d .framed ≡ true) where
-      pub stall-refused : {x : Refusal} {i : ℕ} → placeAnswer (d .table) slot (rectangle w0 h0 w h) ≡ Refused x i → refusedRecord d x i ≡ afterRecord d (Stall slot w0 h0 w h)
+      pub stall-refused : {x : Refusal} {i : ℕ} → placeAnswer (d .table) slot id (rectangle w0 h0 w h) ≡ Refused x i → refusedRecord d x i ≡ afterRecord d (Stall slot w0 h0 w h id)
       unfolding recordAnswer
-      stall-refused e = record-refused (Stall slot w0 h0 w h) (framed-is d _ f ∙ e)
+      stall-refused e = record-refused (Stall slot w0 h0 w h id) (framed-is d _ f ∙ e)
 
-      pub stall-placed : {v : ℕ} {t : RegionTable} → placeAnswer (d .table) slot (rectangle w0 h0 w h) ≡ Accepted → v ≡ w * h * d .table .layout .channels
-          → t ≡ placeTable (d .table) slot (rectangle w0 h0 w h)
-          → _≡_ {A = After} (record { answer = Accepted; value = v; framed = d .framed; table = t }) (afterRecord d (Stall slot w0 h0 w h))
+      pub stall-placed : {v : ℕ} {t : RegionTable} → placeAnswer (d .table) slot id (rectangle w0 h0 w h) ≡ Accepted → v ≡ w * h * d .table .layout .channels
+          → t ≡ placeTable (d .table) slot id (rectangle w0 h0 w h)
+          → _≡_ {A = After} (record { answer = Accepted; value = v; framed = d .framed; table = t }) (afterRecord d (Stall slot w0 h0 w h id))
       unfolding recordAnswer recordValue recordDone
       stall-placed {v} e i p =
-          ap (λ (u : RegionTable). record { answer = Accepted; value = v; framed = d .framed; table = u }) p ∙ record-done (Stall slot w0 h0 w h) (framed-is d _ f ∙ e) i
+          ap (λ (u : RegionTable). record { answer = Accepted; value = v; framed = d .framed; table = u }) p ∙ record-done (Stall slot w0 h0 w h id) (framed-is d _ f ∙ e) i
 
   -- ---- cell
-  module _ (slot c h w : ℕ) where
-    pub cell-unframed : d .framed ≡ false → refusedRecord d Size 0 ≡ afterRecord d (Cell slot c h w)
+  module _ (slot c h w id : ℕ) where
+    pub cell-unframed : d .framed ≡ false → refusedRecord d Size 0 ≡ afterRecord d (Cell slot c h w id)
     unfolding recordAnswer
-    cell-unframed e = record-refused (Cell slot c h w) (unframed d _ e)
+    cell-unframed e = record-refused (Cell slot c h w id) (unframed d _ e)
 
     module _ (f : d .framed ≡ true) where
-      pub cell-refused : {x : Refusal} {i : ℕ} → regionPosition (d .table) slot c h w ≡ NotGiven x i → refusedRecord d x i ≡ afterRecord d (Cell slot c h w)
+      pub cell-refused : {x : Refusal} {i : ℕ} → regionPosition (d .table) slot id c h w ≡ NotGiven x i → refusedRecord d x i ≡ afterRecord d (Cell slot c h w id)
       unfolding recordAnswer regionPosition
-      cell-refused e = record-refused (Cell slot c h w) (framed-is d _ f ∙ denied _ _ e)
+      cell-refused e = record-refused (Cell slot c h w id) (framed-is d _ f ∙ denied _ _ e)
 
-      pub cell-at : {v : ℕ} → regionPosition (d .table) slot c h w ≡ Is v
-          → _≡_ {A = After} (record { answer = Accepted; value = v; framed = d .framed; table = d .table }) (afterRecord d (Cell slot c h w))
+      pub cell-at : {v : ℕ} → regionPosition (d .table) slot id c h w ≡ Is v
+          → _≡_ {A = After} (record { answer = Accepted; value = v; framed = d .framed; table = d .table }) (afterRecord d (Cell slot c h w id))
       unfolding recordAnswer recordValue recordDone regionPosition
-      cell-at e = let g = quantity-given _ _ _ e in record-done (Cell slot c h w) (framed-is d _ f ∙ g .0) (sym (g .1))
+      cell-at e = let g = quantity-given _ _ _ e in record-done (Cell slot c h w id) (framed-is d _ f ∙ g .0) (sym (g .1))
+
+  -- ---- leave
+  module _ (slot id : ℕ) where
+    pub leave-unframed : d .framed ≡ false → refusedRecord d Size 0 ≡ afterRecord d (Leave slot id)
+    unfolding recordAnswer
+    leave-unframed e = record-refused (Leave slot id) (unframed d _ e)
+
+    pub leave-slot : {v : ℕ} → regionCount (d .table) slot id ≡ Is v → slot < 16
+    unfolding regionCount
+    leave-slot e = box-accepted (onStall d slot id) _ (quantity-given _ _ _ e .0) .slot .number
+
+    module _ (f : d .framed ≡ true) where
+      pub leave-refused : {x : Refusal} {i : ℕ} → regionCount (d .table) slot id ≡ NotGiven x i → refusedRecord d x i ≡ afterRecord d (Leave slot id)
+      unfolding recordAnswer regionCount
+      leave-refused e = record-refused (Leave slot id) (framed-is d _ f ∙ denied _ _ e)
+
+      pub leave-counted : {v : ℕ} {t : RegionTable} → regionCount (d .table) slot id ≡ Is v → t ≡ withSlot (d .table) slot noRegion
+          → _≡_ {A = After} (record { answer = Accepted; value = v; framed = d .framed; table = t }) (afterRecord d (Leave slot id))
+      unfolding recordAnswer recordValue recordDone regionCount
+      leave-counted {v} e p =
+          let g = quantity-given _ _ _ e in
+          ap (λ (u : RegionTable). record { answer = Accepted; value = v; framed = d .framed; table = u }) p
+          ∙ record-done (Leave slot id) (framed-is d _ f ∙ g .0) (sym (g .1))
 
 -- ---- the elements of a placed region
-module _ (t : RegionTable) (slot w0 h0 w h : ℕ) (ok : placeAnswer t slot (rectangle w0 h0 w h) ≡ Accepted) where
+module _ (t : RegionTable) (slot w0 h0 w h id : ℕ) (ok : placeAnswer t slot id (rectangle w0 h0 w h) ≡ Accepted) where
   pub count-le : w * h ≤ 8192 * 8192
   unfolding placeAnswer
   count-le =
       let g = rectangle w0 h0 w h in
-      let p = place-accepted (accessOf t slot) g ok in
+      let p = place-accepted (accessOf t slot id) g ok in
       mul-le-mul {n₁ = w} {m₁ = h} {n₂ = 8192} {m₂ = 8192} (omega (arith, p .layout .width-le, rectangle-columns (t .layout) g (p .inside) .fit)) (omega (arith, p .layout .height-le, rectangle-rows (t .layout) g (p .inside) .fit))
 
   pub count-all-le : w * h * t .layout .channels ≤ 8192 * 8192 * 8192
   unfolding placeAnswer
-  count-all-le = mul-le-mul count-le (place-accepted (accessOf t slot) (rectangle w0 h0 w h) ok .layout .channels-le)
+  count-all-le = mul-le-mul count-le (place-accepted (accessOf t slot id) (rectangle w0 h0 w h) ok .layout .channels-le)
 
 -- a line ended is its record's row, and the state after it
 pub line-fed : (s : Sheet) (read : ℕ) {r : Record} {l : Lines} {a : After} → r ≡ lineRecord (s .lines .line) → l ≡ nextLines (s .lines)

@@ -70,8 +70,8 @@ pub fn pack(layout: Layout, elements: &[i16], buffer: &mut [u8]) -> Answer<()> {
 }
 
 #[inline(never)]
-pub fn edit(table: &Table, slot: u32, part: ElementBox, elements: &[i16], buffer: &mut [u8]) -> Answer<()> {
-    let regions::InCube { first, sizes, .. } = regions::admitted(table, slot, part, elements.len(), buffer.len())?;
+pub fn edit(table: &Table, slot: u32, id: u32, part: ElementBox, elements: &[i16], buffer: &mut [u8]) -> Answer<()> {
+    let regions::InCube { first, sizes, .. } = regions::admitted(table, slot, id, part, elements.len(), buffer.len())?;
     write_box(table.layout(), [first, sizes].map(|sizes| sizes.map(|size| size as usize)), false, elements, buffer)
 }
 

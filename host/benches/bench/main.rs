@@ -192,16 +192,17 @@ fn unpack<S: Copy>(name: &str, repetitions: usize, (setting, elements, bytes): P
 /// A box of 64×64 over all channels, which fill their atoms, in a region of 128×128.
 fn edit(name: &str, words: [u32; 4]) -> Row {
     const SLOT: u32 = 5;
+    const ID: u32 = 1;
     let (layout, elements, bytes) = cube(words);
     let mut table = Table::empty(layout);
-    table.place(SLOT, [96, 80, 128, 128].into()).expect("accepted");
+    table.place(SLOT, ID, [96, 80, 128, 128].into()).expect("accepted");
     let part = [0, 24, 40, layout.channels, 64, 64].into();
     let corner = (80 + 24) * layout.line + 32 * (96 + 40);
     let surfaces = (corner as usize..bytes.len()).step_by(layout.surface as usize);
     let lines = surfaces.flat_map(|at| (at..).step_by(layout.line as usize).take(64).map(|at| at..at + 32 * 64));
     let cells = draw::product(&[layout.channels, 64, 64]);
     let calls = [Table::edit, loops::edit]
-        .map(|call| move |from: &[i16], to: &mut [u8]| call(black_box(&table), SLOT, black_box(part), from, to).map(|()| [0; 5]));
+        .map(|call| move |from: &[i16], to: &mut [u8]| call(black_box(&table), SLOT, ID, black_box(part), from, to).map(|()| [0; 5]));
     measure(name, 1001, cells, &elements[..cells], &vec![LEFT; bytes.len()], &lines.collect::<Vec<_>>(), calls)
 }
 

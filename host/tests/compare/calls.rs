@@ -1,7 +1,7 @@
 //! The calls on settings and regions, each beside the reference's.
 
 use crate::both::{compare, same, Both};
-use crate::draw::{buffer_length, product, with_slot, Generator, EDGES};
+use crate::draw::{buffer_length, product, with_slot, Generator, EDGES, IDS};
 use crate::reference::{cube, pixels, regions, weights};
 use olsketina::{ElementBox, Image, Layout, Region, Table, Weights};
 
@@ -12,8 +12,8 @@ pub enum Setting {
     Cube(Layout),
     Kernels(Weights),
     Pixels(Image),
-    /// A box, counted from the corner of the region in a slot.
-    Part(Table, u32, ElementBox),
+    /// A box, counted from the corner of the region in a slot; then the id that is given.
+    Part(Table, u32, u32, ElementBox),
 }
 pub use Setting::{Cube, Kernels, Part, Pixels};
 
@@ -24,7 +24,7 @@ impl Setting {
             Cube(of) => vec![of.channels, of.height, of.width],
             Kernels(of) => vec![of.kernels, of.channels, of.rows, of.columns],
             Pixels(of) => vec![of.width, of.height],
-            Part(_, _, of) => vec![of.channels, of.rows, of.columns],
+            Part(_, _, _, of) => vec![of.channels, of.rows, of.columns],
         }
     }
 
@@ -43,11 +43,23 @@ impl Setting {
 /// All that the calls on weights answer, and those on a box of a whole cube.
 pub const WEIGHTS: &str =
     "weights_count: 0 1 2; weights_extent: 0 1 2; weights_pack: 0 1 2 5 6 7; weights_position: 0 1 2 9; weights_unpack: 0 1 2 5 6";
-pub const BOXES: &str = "regions_edit: 0 1 2 3 4 5 6 7 9; regions_read: 0 1 2 3 4 5 6 9";
+pub const BOXES: &str = "regions_edit: 0 1 2 3 4 5 6 7 9 25; regions_read: 0 1 2 3 4 5 6 9 25";
+
+/// The owner of the regions that are placed by hand.
+pub const OWNER: u32 = 7;
 
 /// A box of a layout's cube, of any words: the region in slot 15 is the whole cube.
 pub fn in_cube(layout: Layout, part: ElementBox) -> Setting {
-    Part(with_slot(layout, 15, [1, 0, 0, layout.width, layout.height]), 15, part)
+    Part(with_slot(layout, 15, [1, OWNER, 0, 0, layout.width, layout.height]), 15, OWNER, part)
+}
+
+/// The same; now and then another id is given.
+pub fn in_cube_by(g: &mut Generator, layout: Layout, part: ElementBox) -> Setting {
+    let id = if g.one_in(10) { g.pick(&IDS) } else { OWNER };
+    match in_cube(layout, part) {
+        Part(table, slot, _, part) => Part(table, slot, id, part),
+        other => other,
+    }
 }
 
 impl Both {
@@ -63,7 +75,7 @@ impl Both {
                 compare!(self, "weights_extent", Weights::extent, weights::extent, of);
             }
             Pixels(of) => drop(compare!(self, "pixels_setting", Image::check, pixels::check, of)),
-            Part(..) => {}
+            Part(table, slot, id, _) => drop(compare!(self, "regions_count", Table::count, regions::count, &table, slot, id)),
         }
     }
 
@@ -72,8 +84,8 @@ impl Both {
             (Cube(of), &[c, h, w]) => compare!(self, "cube_position", Layout::position, cube::position, of, c, h, w),
             (Kernels(of), &[k, c, r, s]) => compare!(self, "weights_position", Weights::position, weights::position, of, k, c, r, s),
             (Pixels(of), &[x, y]) => compare!(self, "pixels_position", Image::position, pixels::position, of, x, y),
-            (Part(table, slot, _), &[c, h, w]) => {
-                compare!(self, "regions_position", Table::position, regions::position, &table, slot, c, h, w)
+            (Part(table, slot, id, _), &[c, h, w]) => {
+                compare!(self, "regions_position", Table::position, regions::position, &table, slot, id, c, h, w)
             }
             _ => panic!("no position {at:?} of {setting:?}"),
         };
@@ -84,7 +96,9 @@ impl Both {
         match setting {
             Cube(of) => compare!(self, "cube_pack", Layout::pack, cube::pack, of; elements, old),
             Kernels(of) => compare!(self, "weights_pack", Weights::pack, weights::pack, of; elements, old),
-            Part(table, slot, part) => compare!(self, "regions_edit", Table::edit, regions::edit, &table, slot, part; elements, old),
+            Part(table, slot, id, part) => {
+                compare!(self, "regions_edit", Table::edit, regions::edit, &table, slot, id, part; elements, old)
+            }
             Pixels(_) => panic!("{setting:?} has no elements"),
         }
     }
@@ -94,7 +108,7 @@ impl Both {
         match setting {
             Cube(of) => compare!(self, "cube_unpack", Layout::unpack, cube::unpack, of; bytes, old),
             Kernels(of) => compare!(self, "weights_unpack", Weights::unpack, weights::unpack, of; bytes, old),
-            Part(table, slot, part) => compare!(self, "regions_read", Table::read, regions::read, &table, slot, part; bytes, old),
+            Part(table, slot, id, part) => compare!(self, "regions_read", Table::read, regions::read, &table, slot, id, part; bytes, old),
             Pixels(_) => panic!("{setting:?} has no elements"),
         }
     }
@@ -106,12 +120,22 @@ impl Both {
     }
 
     /// Whether that was accepted.
-    pub fn place(&mut self, table: &mut Table, slot: u32, region: impl Into<Region>) -> bool {
+    pub fn place(&mut self, table: &mut Table, slot: u32, id: u32, region: impl Into<Region>) -> bool {
         let (before, mut plain, region) = (*table, *table, region.into());
-        let case = format_args!("slot {slot} {region:?} {before:?}");
-        self.same("regions_place", table.place(slot, region), regions::place(&mut plain, slot, region), case);
+        let case = format_args!("slot {slot} id {id} {region:?} {before:?}");
+        self.same("regions_place", table.place(slot, id, region), regions::place(&mut plain, slot, id, region), case);
         same("table", table.words(), plain.words(), case);
         self.last.is_ok()
+    }
+
+    /// Releases a region; gives the bytes afterwards.
+    pub fn release(&mut self, table: &mut Table, slot: u32, id: u32, old: &[u8]) -> Vec<u8> {
+        let (before, mut plain) = (*table, *table);
+        let case = format_args!("slot {slot} id {id} {before:?}, lent {} to write", old.len());
+        let release = |to: &mut [u8]| table.release(slot, id, to);
+        let left = self.lend("regions_release", old, case, release, |to| regions::release(&mut plain, slot, id, to));
+        same("table", table.words(), plain.words(), case);
+        left
     }
 
     pub fn write_and_read(&mut self, setting: Setting, elements: &[i16], bytes: &[u8]) {

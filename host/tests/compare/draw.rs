@@ -14,6 +14,9 @@ pub const EDGES: [u32; 30] = [
 /// Precision codes, unknown ones among them.
 pub const PRECISIONS: [u32; 7] = [0, 1, 2, 3, 4, 1 << 31, u32::MAX];
 
+/// Owners' ids, most of them valid.
+pub const IDS: [u32; 9] = [1, 2, 3, 40000, 65534, 65535, 0, 65536, u32::MAX];
+
 /// Numbers at and beside the int8 and int16 ranges.
 pub const OUTSIDE: [i16; 6] = [128, -129, i16::MAX, i16::MIN, 127, -128];
 
@@ -125,16 +128,16 @@ impl Generator {
         }
     }
 
-    /// A table of any words: those of the layout, damaged once in `odds` times; placed words that are not 0 or 1; regions inside the cube and outside,
-    /// empty ones, sums past 32 bits.
+    /// A table of any words: those of the layout, damaged once in `odds` times; placed words that are not 0 or 1; owners that no placing takes; regions
+    /// inside the cube and outside, empty ones, sums past 32 bits.
     pub fn any_table(&mut self, layout: Layout, odds: u64) -> Table {
         let mut table = regions::empty(self.damaged(odds, layout));
         for slot in 0..16 {
             let placed = self.pick(&[0, 0, 0, 1, 2, 1 << 31, u32::MAX]);
             let ElementBox { column, row, columns, rows, .. } = self.inner_box(1, layout.height, layout.width);
-            let mut words = [placed, column, row, columns, rows];
+            let mut words = [placed, self.pick(&IDS), column, row, columns, rows];
             if self.one_in(3) {
-                words[1..].iter_mut().for_each(|word| *word = if self.one_in(2) { self.pick(&EDGES) } else { *word });
+                words[2..].iter_mut().for_each(|word| *word = if self.one_in(2) { self.pick(&EDGES) } else { *word });
             }
             table = regions::with_slot(&table, slot, words);
         }

@@ -1,7 +1,7 @@
 //! Packing and unpacking of cubes and weights; edits and reads of boxes.
 
 use crate::both::{start, Both};
-use crate::calls::{in_cube, Cube, Kernels, Part, BOXES, WEIGHTS};
+use crate::calls::{in_cube, in_cube_by, Cube, Kernels, Part, BOXES, OWNER, WEIGHTS};
 use crate::draw::{dense, whole, with_slot, Generator, EDGES, OUTSIDE, PRECISIONS};
 use crate::reference::each;
 use olsketina::Weights;
@@ -16,9 +16,9 @@ impl Both {
         let [columns, rows, channels] = [column + columns + g.among(0, 3), row + rows + g.among(0, 1), channel + channels + g.among(0, 9)];
         let [left, top, right] = if all { [0; 3] } else { [g.among(0, 20), g.among(0, 1), g.among(0, 2)] };
         let mut table = self.empty(g.layout(left + columns + right, top + rows, channels, precision));
-        let slot = g.among(0, 15);
-        assert!(self.place(&mut table, slot, [left, top, columns, rows]));
-        self.trip(g, Part(table, slot, part.into()));
+        let [slot, id] = [g.among(0, 15), g.among(1, 65535)];
+        assert!(self.place(&mut table, slot, id, [left, top, columns, rows]));
+        self.trip(g, Part(table, slot, id, part.into()));
     }
 }
 
@@ -127,7 +127,8 @@ fn refusals_and_their_order() {
             _ => {}
         }
         both.lengths(&mut g, Cube(layout), Cube(other), usize::MAX);
-        both.lengths(&mut g, in_cube(layout, part), in_cube(other, other_part), usize::MAX);
+        let other_box = in_cube_by(&mut g, other, other_part);
+        both.lengths(&mut g, in_cube(layout, part), other_box, usize::MAX);
         both.lengths(&mut g, Kernels(weights), Kernels(other_weights), usize::MAX);
         both.checks(&mut g, Kernels(other_weights));
     }
@@ -166,8 +167,8 @@ fn lengths_beside_the_exact_ones() {
 fn values_out_of_range_at_every_index() {
     let (mut g, mut both) = start(16);
     for precision in 0..=2 {
-        let table = with_slot(g.layout(40, 3, 36, precision), 3, [1, 1, 1, 38, 2]);
-        let mut settings = vec![Part(table, 3, [1, 1, 2, 34, 1, 35].into()), Kernels([33, 3, 2, 2, precision].into())];
+        let table = with_slot(g.layout(40, 3, 36, precision), 3, [1, OWNER, 1, 1, 38, 2]);
+        let mut settings = vec![Part(table, 3, OWNER, [1, 1, 2, 34, 1, 35].into()), Kernels([33, 3, 2, 2, precision].into())];
         for [width, height, channels] in [[70, 2, 5], [3, 2, 67], [33, 1, 33], [1, 1, 1]] {
             let layout = g.layout(width, height, channels, precision);
             settings.extend([Cube(layout), in_cube(layout, whole(layout))]);

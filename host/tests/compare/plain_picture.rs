@@ -1,6 +1,6 @@
 //! The plain picture: a raw tensor and sixteen slots, fed the calls of a list, never the packed bytes.
 
-use crate::draw::buffer_length;
+use crate::draw::{buffer_length, product};
 use crate::reference::{cube, each, refuse, require};
 use olsketina::{Answer, ElementBox, Layout, Refusal, Region};
 
@@ -10,7 +10,8 @@ pub struct PlainPicture {
     /// The buffer from before the packing.
     pub before: Vec<u8>,
     pub elements: Vec<i16>,
-    pub slots: [Option<Region>; 16],
+    /// Owners' ids and regions.
+    pub slots: [Option<(u32, Region)>; 16],
 }
 
 /// The positions of a region, or of any span of columns and rows.
@@ -27,22 +28,29 @@ impl PlainPicture {
         packed
     }
 
-    pub fn place(&mut self, slot: u32, region: Region) -> Answer<()> {
+    pub fn place(&mut self, slot: u32, id: u32, region: Region) -> Answer<()> {
         let [column, row, columns, rows] = <[u32; 4]>::from(region).map(u64::from);
         let [width, height] = [self.layout.width, self.layout.height].map(u64::from);
+        require((1..=65535).contains(&id), 25)?;
         require(slot <= 15 && self.slots[slot as usize].is_none(), 8)?;
         require(columns > 0 && rows > 0 && column + columns <= width && row + rows <= height, 9)?;
         each!(y in row..row + rows, x in column..column + columns => {
-            require(!self.slots.iter().flatten().any(|&other| covers(other, x, y)), 10)?;
+            require(!self.slots.iter().flatten().any(|&(_, other)| covers(other, x, y)), 10)?;
         });
-        self.slots[slot as usize] = Some(region);
+        self.slots[slot as usize] = Some((id, region));
         Ok(())
     }
 
+    /// The region of a call that gives this id.
+    fn region(&self, slot: u32, id: u32) -> Answer<Region> {
+        let Some(&Some((owner, region))) = self.slots.get(slot as usize) else { return refuse(8) };
+        require(id == owner, 25)?;
+        Ok(region)
+    }
+
     /// The raw indices of a box's elements, in raw order over the box; of a call that lends so many elements and bytes.
-    fn indices(&self, slot: u32, part: ElementBox, given: usize, bytes: usize) -> Answer<Vec<usize>> {
-        let Some(&Some(region)) = self.slots.get(slot as usize) else { return refuse(8) };
-        let [left, top, across, down] = <[u32; 4]>::from(region).map(u64::from);
+    fn indices(&self, [slot, id]: [u32; 2], part: ElementBox, given: usize, bytes: usize) -> Answer<Vec<usize>> {
+        let [left, top, across, down] = <[u32; 4]>::from(self.region(slot, id)?).map(u64::from);
         let [channel, row, column, channels, rows, columns] = <[u32; 6]>::from(part).map(u64::from);
         let [width, height, depth, ..] = <[u32; 7]>::from(self.layout).map(u64::from);
         let inside = channel + channels <= depth && row + rows <= down && column + columns <= across;
@@ -57,8 +65,8 @@ impl PlainPicture {
         Ok(indices)
     }
 
-    pub fn edit(&mut self, slot: u32, part: ElementBox, elements: &[i16], bytes: usize) -> Answer<()> {
-        let indices = self.indices(slot, part, elements.len(), bytes)?;
+    pub fn edit(&mut self, slot: u32, id: u32, part: ElementBox, elements: &[i16], bytes: usize) -> Answer<()> {
+        let indices = self.indices([slot, id], part, elements.len(), bytes)?;
         let outside = elements.iter().position(|element| !(-128..=127).contains(element));
         if let (0, Some(fault)) = (self.layout.precision, outside) {
             return Err(Refusal { number: 7, fault });
@@ -69,11 +77,21 @@ impl PlainPicture {
         Ok(())
     }
 
-    pub fn read(&self, slot: u32, part: ElementBox, elements: &mut [i16], bytes: usize) -> Answer<()> {
-        let indices = self.indices(slot, part, elements.len(), bytes)?;
+    pub fn read(&self, slot: u32, id: u32, part: ElementBox, elements: &mut [i16], bytes: usize) -> Answer<()> {
+        let indices = self.indices([slot, id], part, elements.len(), bytes)?;
         for (&index, element) in indices.iter().zip(elements) {
             *element = self.elements[index];
         }
+        Ok(())
+    }
+
+    /// An edit of the whole region with zeros, which empties the slot.
+    pub fn release(&mut self, slot: u32, id: u32, bytes: usize) -> Answer<()> {
+        let Region { columns, rows, .. } = self.region(slot, id)?;
+        let sizes = [self.layout.channels, rows, columns];
+        let part = [0, 0, 0, sizes[0], sizes[1], sizes[2]].into();
+        self.edit(slot, id, part, &vec![0; product(&sizes)], bytes)?;
+        self.slots[slot as usize] = None;
         Ok(())
     }
 }

@@ -1,7 +1,7 @@
 //! Layouts, weights and images: the limits of their words, the order of their checks, and positions.
 
 use crate::both::{start, Both};
-use crate::calls::{in_cube, Cube, Kernels, Pixels, Setting, BOXES, WEIGHTS};
+use crate::calls::{in_cube_by, Cube, Kernels, Pixels, Setting, BOXES, WEIGHTS};
 use crate::draw::{each_pair, whole, Generator, EDGES, PRECISIONS};
 use crate::reference::{each, pixels};
 use olsketina::{Image, Layout};
@@ -15,7 +15,8 @@ impl Both {
             let [c, h, w] = [layout.channels, layout.height, layout.width].map(|size| size.clamp(1, 8192));
             part = g.inner_box(c, h, w);
         }
-        let setting = in_cube(layout, g.damaged(3, part));
+        let part = g.damaged(3, part);
+        let setting = in_cube_by(g, layout, part);
         self.lengths(g, setting, setting, 1000);
     }
 

@@ -71,14 +71,14 @@ impl Session {
 }
 
 /// All that a line can be answered.
-const ANSWERS: &str = "lines: 0 1 2 3 4 8 9 10 24; parts: 0";
+const ANSWERS: &str = "lines: 0 1 2 3 4 8 9 10 24 25; parts: 0";
 
 const FRAME: &str = "frame\t3\t2\t40\t0\t128\t256\t0\n";
 
 /// A sheet that has read the paper's frame and a stall.
 fn framed() -> Sheet {
     let (_, mut session) = session(0);
-    session.feed(format!("{FRAME}stall\t1\t1\t0\t2\t1\n").as_bytes());
+    session.feed(format!("{FRAME}stall\t1\t1\t0\t2\t1\t3\n").as_bytes());
     session.sheet
 }
 
@@ -89,10 +89,11 @@ fn joined(name: &str, numbers: &[u32]) -> Vec<u8> {
 
 /// A record, whose numbers are right most often; damaged one of these numbers of times.
 fn any_line(g: &mut Generator, damages: &[u64]) -> Vec<u8> {
-    let (name, odds, mut numbers) = match g.below(8) {
+    let (name, odds, mut numbers) = match g.below(10) {
         0 => ("frame", 2, <[u32; 7]>::from(g.small_layout()).to_vec()),
-        1..=4 => ("stall", 6, vec![g.among(0, 4), g.among(0, 5), g.among(0, 2), g.among(1, 4), g.among(1, 2)]),
-        _ => ("cell", 6, vec![g.among(0, 4), g.among(0, 20), g.among(0, 1), g.among(0, 2)]),
+        1..=4 => ("stall", 6, vec![g.among(0, 4), g.among(0, 5), g.among(0, 2), g.among(1, 4), g.among(1, 2), g.among(1, 3)]),
+        5 => ("leave", 6, vec![g.among(0, 4), g.among(1, 3)]),
+        _ => ("cell", 6, vec![g.among(0, 4), g.among(0, 20), g.among(0, 1), g.among(0, 2), g.among(1, 3)]),
     };
     g.damage(odds, &mut numbers);
     let mut line = joined(name, &numbers);
@@ -119,7 +120,7 @@ fn damage_line(g: &mut Generator, line: &mut Vec<u8>) {
         // A zero before the first number; no last number.
         9 => line.insert(line.iter().position(|&byte| byte == b'\t').map_or(at, |tab| tab + 1), b'0'),
         10 => line.truncate(line.iter().rposition(|byte| !byte.is_ascii_digit()).map_or(0, |last| last + 1)),
-        11 => line.insert(0, g.pick(b"\t fsc")),
+        11 => line.insert(0, g.pick(b"\t fscl")),
         12 => line[0] = line[0].to_ascii_uppercase(),
         _ => line.extend(g.pick(&[&b"4294967296"[..], b"00", b"9", b"\t4294967295"])),
     }
@@ -162,10 +163,10 @@ fn whole_sheets_and_their_parts() {
 #[test]
 fn long_lines() {
     let (_, mut session) = session(111);
-    each!(length in (0..=130).chain([240, 241, 1000, 70000]), byte in [b'0', b'\t', b'x', 0, b'\r', 255], start in [&b""[..], b"frame\t", b"cell\t0\t0\t0\t0"] => {
+    each!(length in (0..=130).chain([240, 241, 1000, 70000]), byte in [b'0', b'\t', b'x', 0, b'\r', 255], start in [&b""[..], b"frame\t", b"cell\t0\t0\t0\t0\t1"] => {
         let mut line = start.to_vec();
         line.resize(start.len().max(length), byte);
-        let input = [FRAME.as_bytes(), &line, b"\nstall\t0\t0\t0\t2\t2\ncell\t0\t33\t1\t1"].concat();
+        let input = [FRAME.as_bytes(), &line, b"\nstall\t0\t0\t0\t2\t2\t1\ncell\t0\t33\t1\t1\t1"].concat();
         let rows = session.whole(&input, &[]);
         let cuts: Vec<usize> = (0..input.len()).step_by(50).collect();
         assert_eq!(session.whole(&input, &cuts), rows);
@@ -187,18 +188,22 @@ fn readings() {
     assert_eq!(answers(&format!("{FRAME}\n")), [0, 24]);
     assert_eq!(answers(&FRAME.replace('\n', "\r\n")), [24]);
     assert_eq!(answers(&FRAME.replace('\n', "\t\n")), [24]);
-    assert_eq!(answers("stall\t16\t0\t0\t0\t0\n"), [1]);
-    assert_eq!(answers("stall\t16\t0\t0\t0\n"), [24]);
-    assert_eq!(answers("frame\t0\t2\t40\t0\t128\t256\t0\ncell\t0\t0\t0\t0"), [1, 1]);
-    let stall = format!("{FRAME}stall\t0\t0\t0\t2\t2\n");
-    let cells = "cell\t0\t33\t1\t1\ncell\t0\t40\t0\t0\ncell\t1\t0\t0\t0\nstall\t1\t0\t0\t0\t1\n";
+    assert_eq!(answers("stall\t16\t0\t0\t0\t0\t0\n"), [1]);
+    assert_eq!(answers("stall\t16\t0\t0\t0\t0\n"), [24]);
+    assert_eq!(answers("frame\t0\t2\t40\t0\t128\t256\t0\ncell\t0\t0\t0\t0\t0\nleave\t16\t0\nleave\t0"), [1, 1, 1, 24]);
+    let stall = format!("{FRAME}stall\t0\t0\t0\t2\t2\t5\n");
+    let cells = "cell\t0\t33\t1\t1\t5\ncell\t0\t40\t0\t0\t5\ncell\t1\t0\t0\t0\t0\nstall\t1\t0\t0\t0\t1\t5\n";
     assert_eq!(answers(&format!("{stall}frame\t3\t2\t40\t3\t128\t256\t0\n{cells}")), [0, 0, 2, 0, 9, 8, 9]);
-    assert_eq!(answers(&format!("{stall}{FRAME}cell\t0\t0\t0\t0\n")), [0, 0, 0, 8]);
+    assert_eq!(answers(&format!("{stall}{FRAME}cell\t0\t0\t0\t0\t5\n")), [0, 0, 0, 8]);
+    let ids = "stall\t0\t0\t0\t0\t0\t0\nstall\t0\t0\t0\t0\t0\t5\nstall\t1\t0\t0\t0\t0\t65536\ncell\t0\t40\t0\t0\t6\ncell\t1\t0\t0\t0\t0\n";
+    assert_eq!(answers(&format!("{stall}{ids}")), [0, 0, 25, 8, 25, 25, 8]);
+    let leaves = "leave\t0\t6\nleave\t1\t5\nleave\t0\t5\nleave\t0\t5\nstall\t0\t1\t1\t1\t1\t6\nleave\t0\t6\n";
+    assert_eq!(answers(&format!("{stall}{leaves}")), [0, 0, 25, 8, 0, 8, 0, 0]);
     let wide =
-        "frame\t1\t1\t8192\t1\t32\t4294967264\t4294967264\nframe\t8192\t8192\t8192\t0\t262144\t2147483648\t0\nstall\t0\t0\t0\t8192\t8192";
+        "frame\t1\t1\t8192\t1\t32\t4294967264\t4294967264\nframe\t8192\t8192\t8192\t0\t262144\t2147483648\t0\nstall\t0\t0\t0\t8192\t8192\t65535\nleave\t0\t65535";
     let values = session.whole(wide.as_bytes(), &[]).into_iter().map(|row| row.answer);
-    assert!(values.eq([2194728271936, 549755813888, 549755813888].map(Ok)));
-    session.both.expect("lines: 0 1 2 8 9 24; parts: 0");
+    assert!(values.eq([2194728271936, 549755813888, 549755813888, 549755813888].map(Ok)));
+    session.both.expect("lines: 0 1 2 8 9 24 25; parts: 0");
 }
 
 /// The words before the table (lines that ended, length of the line in progress, whether there is a frame), then the table.
@@ -245,11 +250,14 @@ fn hand_made_states() {
 #[test]
 fn words_that_stay() {
     let (_, mut session) = session(105);
-    let lines = [FRAME, "frame\t0\t2\t40\t0\t128\t256\t0\n", "stall\t15\t0\t0\t1\t1\n", "cell\t0\t0\t0\t0\n", "none\n", "part", ""];
+    let lines = [
+        FRAME, "frame\t0\t2\t40\t0\t128\t256\t0\n", "stall\t15\t0\t0\t1\t1\t3\n", "cell\t0\t0\t0\t0\t3\n", "leave\t0\t3\n", "none\n",
+        "part", "",
+    ];
     each!(framed in [0, 1, 2, u32::MAX], placed in [0, 1, 2, u32::MAX], line in lines => {
-        let mut table = with_slot([3, 2, 40, 0, 128, 256, 0].into(), 15, [0, 1, 1, 1, 1]);
+        let mut table = with_slot([3, 2, 40, 0, 128, 256, 0].into(), 15, [0, 1, 1, 1, 1, 1]);
         for slot in 0..15 {
-            table = reference::regions::with_slot(&table, slot, [placed, 1, 1, 1, 1]);
+            table = reference::regions::with_slot(&table, slot, [placed, 3, 1, 1, 1, 1]);
         }
         session.sheet = Sheet { state: state([0, 0, 0, framed], table), text: [b'y'; 120] };
         session.call(Some(line.as_bytes()));
@@ -267,7 +275,7 @@ fn records() {
         session.line(&framed, &any_line(&mut g, &[0, 1, 2]));
     }
     for _ in 0..50_000 {
-        let line: Vec<u8> = (0..g.below(140)).map(|_| g.pick(b"framestallcell\t\t\t0123456789\n")).collect();
+        let line: Vec<u8> = (0..g.below(140)).map(|_| g.pick(b"framestallcellleave\t\t\t0123456789\n")).collect();
         session.line(&framed, &line);
     }
     session.both.expect(ANSWERS);
@@ -296,7 +304,7 @@ fn numbers_in_every_field() {
     let numbers = "0 1 9 10 00 01 007 4294967295 4294967296 4294967299 4294967300 4300000000 5000000000 9999999999 04294967295 10000000000 \
         42949672950 18446744073709551615 18446744073709551616 18446744073709551617 340282366920938463463374607431768211456 -1 +1 1.0 0x1 1e3 ٣";
     let odd = ["", "1 ", " 1", "1\n", "\r"];
-    let good = [("frame", "3 2 40 0 128 256 0"), ("stall", "0 0 0 1 2"), ("cell", "1 33 0 1")];
+    let good = [("frame", "3 2 40 0 128 256 0"), ("stall", "0 0 0 1 2 3"), ("cell", "1 33 0 1 3"), ("leave", "1 3")];
     for (name, good) in good {
         let right: Vec<&str> = good.split(' ').collect();
         for fields in 0..=right.len() + 2 {
@@ -309,8 +317,10 @@ fn numbers_in_every_field() {
             assert_eq!(session.line(&framed, bare.as_bytes()) != 24, fields == right.len(), "{bare:?}");
         }
     }
-    let names =
-        ["", "f", "fram", "framee", "Frame", "FRAME", "stalls", "stal", "cel", "cells", "cell ", " cell", "frame\0", "cell\r", "call"];
+    let names = [
+        "", "f", "fram", "framee", "Frame", "FRAME", "stalls", "stal", "cel", "cells", "cell ", " cell", "frame\0", "cell\r", "call",
+        "leav", "leaves", "Leave", "leave ", "leafe",
+    ];
     each!(name in names, count in 0..9 => {
         let line = format!("{name}{}", "\t1".repeat(count));
         session.line(&framed, line.as_bytes());

@@ -98,10 +98,11 @@ fn curve() {
     assert_eq!(Lookup::ready_made(23, [Choice::X; 3]), refused(14));
 }
 
-/// The paper's sheet: input and whole output.
+/// The paper's sheet with owners' ids and a leave: input and whole output.
 #[test]
 fn sheet() {
-    let input = "frame\t3\t2\t40\t0\t128\t256\t0\nstall\t0\t0\t0\t2\t2\nstall\t1\t1\t0\t2\t1\ncell\t0\t33\t1\t1\n";
+    let input = "frame\t3\t2\t40\t0\t128\t256\t0\nstall\t0\t0\t0\t2\t2\t7\nstall\t1\t1\t0\t2\t1\t8\ncell\t0\t33\t1\t1\t7\n\
+        leave\t0\t8\nleave\t0\t7\nstall\t1\t1\t0\t2\t1\t8\n";
     let mut sheet = Sheet::begin();
     let mut output = header_text();
     let mut rest = input.as_bytes();
@@ -111,5 +112,5 @@ fn sheet() {
         output.extend(row.expect("a line ended").text());
     }
     assert_eq!(sheet.finish(), None);
-    assert_eq!(output, b"line\tanswer\tvalue\n1\t0\t480\n2\t0\t160\n3\t10\t0\n4\t0\t417\n");
+    assert_eq!(output, b"line\tanswer\tvalue\n1\t0\t480\n2\t0\t160\n3\t10\t0\n4\t0\t417\n5\t25\t0\n6\t0\t160\n7\t0\t80\n");
 }

@@ -1,5 +1,5 @@
 -- `cube::pack` meets its contract: it writes the box of the whole cube, and clears the padding where there is any. Assumes nothing.
-use Prim.Native.Nat.{ℕ, _*_, _%_, _≤_}
+use Prim.Native.Nat.{ℕ, _+_, _-_, _*_, _%_, _≤_}
 use native.Mathlib.Omega.{arith}
 use native.Mathlib.Nat.{mul-le-mul}
 use mathlib.Core.Path.{_≡_, refl, sym, ap, subst⁻¹, _∙_}
@@ -10,14 +10,13 @@ use Rattle.elements.proofs.ByteLaws.{elementBytes-le}
 use Rattle.layout.specs.Geometry.{sizeOf}
 use lib.ListN.{length}
 use Rattle.refusal.specs.declared.Answer.the-variants.{Accepted}
-use Rattle.refusal.specs.Checks.{inOrder}
 use Rattle.layout.specs.declared.ElementBox.{ElementBox}
 use Rattle.layout.specs.Boxes.{wholeBox}
-use Rattle.layout.specs.Rules.{admitChecks}
-use Rattle.layout.specs.Calls.{writeBoxAnswer}
-use Rattle.layout.proofs.CallLaws.{pack-whole, write-admitted, admitted}
-use Rattle.cube.specs.Steps.{boxWritten}
-use Rattle.cube.proofs.FinalLaws.{packed-whole, pack-kept}
+use Rattle.layout.specs.Calls.{writeBoxAnswer, clearBoxAnswer}
+use Rattle.layout.proofs.CallLaws.{Admitted, pack-whole}
+use Rattle.cube.specs.Steps.{runFrom, gathered, boxWritten}
+use Rattle.cube.proofs.RunLaws.{plane-le}
+use Rattle.cube.proofs.FinalLaws.{write-valid, write-ready, raw-written, packed-whole, pack-kept}
 use borrow.Author.Needs.{needs}
 use Rattle.cube.proofs.pack.Statement.{statement}
 use Rattle.cube.proofs.pack.Tie as tie
@@ -36,18 +35,14 @@ judged c = c .before .before
 accepted : (c : tie.After-enum-told) → writeBoxAnswer (start (judged c) .args .layout) (wholeBox (start (judged c) .args .layout)) (start (judged c) .args .elements .now) (length (start (judged c) .args .buffer .now)) ≡ Accepted
 accepted c = sym (answer (judged c)) ∙ c .enum-told .given .1
 
-admits : (c : tie.After-enum-told) → inOrder (admitChecks (start (judged c) .args .layout) (wholeBox (start (judged c) .args .layout)) (length (start (judged c) .args .elements .now)) (length (start (judged c) .args .buffer .now))) ≡ Accepted
-admits c =
-    let a = start (judged c) .args in
-    write-admitted (a .layout) (wholeBox (a .layout)) (a .elements .now) (length (a .buffer .now)) (accepted c)
+valid : (c : tie.After-enum-told) → Admitted (start (judged c) .args .layout) (wholeBox (start (judged c) .args .layout)) (length (start (judged c) .args .elements .now)) (length (start (judged c) .args .buffer .now))
+valid c = let a = start (judged c) .args in write-valid (a .layout) (wholeBox (a .layout)) (a .elements .now) (a .buffer .now) (accepted c)
 
 -- the bytes of all channels, with the element size as it was returned
 bytes : (c : tie.After-element-bytes) → start (judged (c .before)) .args .layout .channels * c .element-bytes .result ≤ 16384
 bytes c =
     let q = start (judged (c .before)) .args .layout in
-    let a = start (judged (c .before)) .args in
-    let ok = admitted q (wholeBox q) (length (a .elements .now)) (length (a .buffer .now)) (admits (c .before)) .layout in
-    mul-le-mul {n₁ = q .channels} {m₁ = c .element-bytes .result} {n₂ = 8192} {m₂ = 2} (ok .channels-le) (subst⁻¹ (λ (e : ℕ). e ≤ 2) (c .element-bytes .ensures) (elementBytes-le (q .precision)))
+    mul-le-mul {n₁ = q .channels} {m₁ = c .element-bytes .result} {n₂ = 8192} {m₂ = 2} (valid (c .before) .layout .channels-le) (subst⁻¹ (λ (e : ℕ). e ≤ 2) (c .element-bytes .ensures) (elementBytes-le (q .precision)))
 
 -- whether the channels leave padding in their last atoms
 abbrev padded : tie.After-element-bytes → Bool
@@ -85,12 +80,21 @@ element-bytes-requires c κs = search needs
 mul-pad : tie.Need-mul-pad
 mul-pad c = omega (arith, bytes (c .before))
 
+mul-plane : tie.Need-mul-plane
+mul-plane c = let e = c .before .before .before in
+    let q = start (judged e) .args .layout in
+    let v = valid e in
+    omega (arith, plane-le q (wholeBox q) (v .layout) (v .inside))
+
 all-requires : tie.Need-all-requires
-all-requires c κs = let e = c .before .before .before in
+all-requires c κs = let e = c .before .before .before .before in
     let d = judged e in
-    let a = start d .args in (
-      subst⁻¹ (λ (b : ElementBox). inOrder (admitChecks (a .layout) b (length (a .elements .now)) (length (a .buffer .now))) ≡ Accepted) (d .before .whole .ensures) (admits e),
-      λ t. d .before .whole .ensures,
+    let a = start d .args in
+    let q = a .layout in
+    let w = write-ready q (wholeBox q) (a .elements .now) (a .buffer .now) (accepted e) in
+    let is = d .before .whole .ensures in (
+      subst⁻¹ (λ (b : ElementBox). clearBoxAnswer q b (length (a .buffer .now)) ≡ Accepted) is (w .0),
+      (λ t. is, subst⁻¹ (λ (b : ElementBox). runFrom (q .height * q .width) (q .width) (b .channels - 1) (b .rows - 1) + b .columns ≤ length (a .elements .now)) is (w .1)),
     )
 
 same-length : tie.Need-same-length
@@ -98,13 +102,17 @@ same-length c = search needs
 
 returns-2 : tie.Need-returns-2
 returns-2 c = let f = c .before .before in
-    let b = f .before .before .before in
+    let b = f .before .before .before .before in
     let e = b .before in
     let d = judged e in
-    let a = start d .args in (
+    let a = start d .args in
+    let q = a .layout in
+    let xs = a .elements .now in (
       sym (accepted e) ∙ sym (pack-whole (a .layout) (a .elements .now) (length (a .buffer .now))),
       packed-whole (a .layout) (a .elements .now) (a .buffer .now) (padded b) (accepted e) (full b)
-          (f .all .ensures ∙ ap (λ (x : ElementBox). boxWritten (a .layout) x (padded b) (a .elements .now) (a .buffer .now)) (d .before .whole .ensures)),
+          (f .all .ensures
+          ∙ ap (λ (x : ElementBox). boxWritten q x (padded b) (gathered x (q .height * q .width) (q .width) xs) (a .buffer .now)) (d .before .whole .ensures)
+          ∙ raw-written q (wholeBox q) xs (a .buffer .now) (accepted e) (padded b)),
     )
 
 pub pack-spec : {M : Type 1} → statement M
@@ -118,6 +126,7 @@ pack-spec =
     returns
     element-bytes-requires
     mul-pad
+    mul-plane
     all-requires
     same-length
     returns-2)

@@ -6,8 +6,8 @@ use mathlib.Core.Bool.{true, false}
 use lib.ListN.{length}
 use Rattle.refusal.specs.declared.Answer.the-variants.{Accepted}
 use Rattle.layout.specs.Calls.{writeBoxAnswer}
-use Rattle.layout.proofs.CallLaws.{write-admitted}
-use Rattle.cube.proofs.FinalLaws.{written, write-kept}
+use Rattle.cube.proofs.RunLaws.{plane-le}
+use Rattle.cube.proofs.FinalLaws.{write-valid, write-ready, raw-written, written, write-kept}
 use borrow.Author.Needs.{needs}
 use Rattle.cube.proofs.write_box.Statement.{statement}
 use Rattle.cube.proofs.write_box.Tie as tie
@@ -35,19 +35,27 @@ returns c = let d = c .before .before in
 differ : false ≡ true → ⊥
 differ t = let z : _≡_ {A = ℕ} 0 1 = cc in omega arith
 
+mul-plane : tie.Need-mul-plane
+mul-plane c = let a = start (c .before) .args in
+    let d = write-valid (a .layout) (a .b) (a .elements .now) (a .buffer .now) (accepted (c .before)) in
+    omega (arith, plane-le (a .layout) (a .b) (d .layout) (d .inside))
+
 all-requires : tie.Need-all-requires
-all-requires c κs = let a = start (c .before) .args in (write-admitted (a .layout) (a .b) (a .elements .now) (length (a .buffer .now)) (accepted (c .before)), λ t. absurd (differ t))
+all-requires c κs = let e = c .before .before in
+    let a = start e .args in
+    let w = write-ready (a .layout) (a .b) (a .elements .now) (a .buffer .now) (accepted e) in
+    (w .0, (λ t. absurd (differ t), w .1))
 
 same-length : tie.Need-same-length
 same-length c = search needs
 
 returns-2 : tie.Need-returns-2
 returns-2 c = let f = c .before .before in
-    let e = f .before .before in
+    let e = f .before .before .before in
     let a = start e .args in
-    (sym (accepted e), written (a .layout) (a .b) (a .elements .now) (a .buffer .now) (accepted e) (f .all .ensures))
+    (sym (accepted e), written (a .layout) (a .b) (a .elements .now) (a .buffer .now) (accepted e) (f .all .ensures ∙ raw-written (a .layout) (a .b) (a .elements .now) (a .buffer .now) (accepted e) false))
 
 pub write-box-spec : {M : Type 1} → statement M
 write-box-spec =
     tie.close
-    (tie.spec judge-requires enum-told enum-told-2 returns all-requires same-length returns-2)
+    (tie.spec judge-requires enum-told enum-told-2 returns mul-plane all-requires same-length returns-2)

@@ -1,4 +1,4 @@
--- `regions_calls::edit` meets its contract: a call refused by 1 to 4, 8 or 9 writes nothing, and past them it writes the box that was found. Assumes nothing.
+-- `regions_calls::edit` meets its contract: a call refused by 1 to 4, 8, 25 or 9 writes nothing, and past them it writes the box that was found. Assumes nothing.
 use mathlib.Core.Path.{refl, sym, _∙_}
 use Rattle.regions_calls.proofs.StepLaws.{edit-refused, edit-found}
 use borrow.Author.Needs.{needs}
@@ -20,7 +20,7 @@ write-box-requires c κs = search needs
 returns : tie.Need-returns
 returns c = let f = c .before .before .before in
     let a = f .before .before .args in
-    let e = edit-refused (a .table) (a .slot) (a .b) (a .elements .now) (a .buffer .now) (sym (f .find-box .ensures) ∙ c .before .refusal .given .1) in
+    let e = edit-refused (a .table) (a .slot) (a .id) (a .b) (a .elements .now) (a .buffer .now) (sym (f .find-box .ensures) ∙ c .before .refusal .given .1) in
     (e .0, (refl, e .1))
 
 same-length : tie.Need-same-length
@@ -31,7 +31,7 @@ returns-2 c = let d = c .before .before in
     let m = d .before .before .before in
     let f = m .before .before in
     let a = f .before .before .args in
-    let e = edit-found (a .table) (a .slot) (a .b) (a .elements .now) (a .buffer .now) (sym (f .find-box .ensures) ∙ m .target .given .1) in
+    let e = edit-found (a .table) (a .slot) (a .id) (a .b) (a .elements .now) (a .buffer .now) (sym (f .find-box .ensures) ∙ m .target .given .1) in
     (d .write-box .ensures .0 ∙ e .0, (refl, d .write-box .ensures .1 ∙ e .1))
 
 pub edit-spec : {M : Type 1} → statement M

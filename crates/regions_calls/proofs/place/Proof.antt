@@ -9,7 +9,7 @@ use borrow.Author.Needs.{needs}
 use Rattle.regions_calls.proofs.place.Statement.{statement}
 use Rattle.regions_calls.proofs.place.Tie as tie
 
-accepted : (c : tie.After-enum-told) → placeAnswer (c .before .before .before .args .table) (c .before .before .before .args .slot) (c .before .before .before .args .rectangle) ≡ Accepted
+accepted : (c : tie.After-enum-told) → let a = c .before .before .before .args in placeAnswer (a .table) (a .slot) (a .id) (a .rectangle) ≡ Accepted
 accepted c = sym (c .before .before .check-place .ensures) ∙ c .enum-told .given .1
 
 check-place-requires : tie.Need-check-place-requires
@@ -23,22 +23,19 @@ enum-told-2 c = search needs
 
 returns : tie.Need-returns
 returns c = let d = c .before .before in
-    let s = d .before in
-    (d .check-place .ensures, place-kept (s .args .table) (s .args .slot) (s .args .rectangle) (sym (d .check-place .ensures) ∙ c .enum-told2 .given .1))
+    let a = d .before .args in
+    (d .check-place .ensures, place-kept (a .table) (a .slot) (a .id) (a .rectangle) (sym (d .check-place .ensures) ∙ c .enum-told2 .given .1))
 
-mul-slots : tie.Need-mul-slots
-mul-slots c = search needs
-
-array-set-from-slots : tie.Need-array-set-from-slots
+with-slot-requires : tie.Need-with-slot-requires
 unfolding placeAnswer
-array-set-from-slots c = let d = c .before .before in
-    let s = d .before .before .before in
-    place-accepted (accessOf (s .args .table) (s .args .slot)) (s .args .rectangle) (accepted d) .number
+with-slot-requires c κs = let a = c .before .before .before .args in
+    place-accepted (accessOf (a .table) (a .slot) (a .id)) (a .rectangle) (accepted c) .number
 
 returns-2 : tie.Need-returns-2
-returns-2 c = let d = c .before .before in
-    let s = d .before .before .before in
-    (d .before .before .check-place .ensures, place-left (s .args .table) (s .args .slot) (s .args .rectangle) (accepted d))
+returns-2 c = let d = c .before in
+    let e = d .before .before in
+    let a = e .before .args in
+    (e .check-place .ensures, c .with-slot .ensures ∙ place-left (a .table) (a .slot) (a .id) (a .rectangle) (accepted d))
 
 pub place-spec : {M : Type 1} → statement M
 place-spec =
@@ -48,6 +45,5 @@ place-spec =
     enum-told
     enum-told-2
     returns
-    mul-slots
-    array-set-from-slots
+    with-slot-requires
     returns-2)

@@ -20,13 +20,13 @@ position-requires c κs = search needs
 returns : tie.Need-returns
 returns c = let f = c .before .before .before in
     let a = f .before .args in
-    position-refused (a .table) (a .slot) (a .channel) (a .row) (a .column) (sym (f .find-box .ensures) ∙ c .before .refusal .given .1)
+    position-refused (a .table) (a .slot) (a .id) (a .channel) (a .row) (a .column) (sym (f .find-box .ensures) ∙ c .before .refusal .given .1)
 
 returns-2 : tie.Need-returns-2
 returns-2 c = let m = c .before .before in
     let f = m .before .before in
     let a = f .before .args in
-    c .position .ensures ∙ position-found (a .table) (a .slot) (a .channel) (a .row) (a .column) (sym (f .find-box .ensures) ∙ m .found .given .1)
+    c .position .ensures ∙ position-found (a .table) (a .slot) (a .id) (a .channel) (a .row) (a .column) (sym (f .find-box .ensures) ∙ m .found .given .1)
 
 pub position-spec : {M : Type 1} → statement M
 position-spec =

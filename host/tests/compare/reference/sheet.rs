@@ -26,7 +26,7 @@ const LENGTH: usize = 2;
 const FRAMED: usize = 3;
 pub const TABLE: usize = 4;
 
-/// The value of a line; an accepted frame or stall changes the state.
+/// The value of a line; an accepted frame, stall or leave changes the state.
 fn apply(state: &mut [u32], line: &[u8]) -> Answer<u64> {
     let mut table = Table::from_words(std::array::from_fn(|at| state[TABLE + at]));
     let framed = state[FRAMED] != 0;
@@ -41,12 +41,17 @@ fn apply(state: &mut [u32], line: &[u8]) -> Answer<u64> {
             }
             extent
         }
-        (b"stall", [_, _, _, _, _]) | (b"cell", [_, _, _, _]) if !framed => return refuse(Refusal::SIZE),
-        (b"stall", &[slot, column, row, columns, rows]) => {
-            regions::place(&mut table, slot, Region { column, row, columns, rows })?;
+        (b"stall", [_, _, _, _, _, _]) | (b"cell", [_, _, _, _, _]) | (b"leave", [_, _]) if !framed => return refuse(Refusal::SIZE),
+        (b"stall", &[slot, column, row, columns, rows, id]) => {
+            regions::place(&mut table, slot, id, Region { column, row, columns, rows })?;
             [columns, rows, table.words()[2]].map(u64::from).iter().product()
         }
-        (b"cell", &[slot, channel, row, column]) => regions::position(&table, slot, channel, row, column)?,
+        (b"cell", &[slot, channel, row, column, id]) => regions::position(&table, slot, id, channel, row, column)?,
+        (b"leave", &[slot, id]) => {
+            let cleared = regions::count(&table, slot, id)?;
+            table = regions::with_slot(&table, slot as usize, [0; regions::SLOT]);
+            cleared
+        }
         _ => return refuse(Refusal::SCRIPT_LINE),
     };
     state[TABLE..].copy_from_slice(table.words());

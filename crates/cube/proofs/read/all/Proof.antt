@@ -1,6 +1,6 @@
 -- `cube::read::all` meets its contract. The outer loop's invariant: the elements of the channels before n are read; the inner one's: since it began
 -- the elements came toward the box's, and those of the rows before r are read. Assumes nothing.
-use Prim.Native.Nat.{ℕ, _+_, _-_, _≤_}
+use Prim.Native.Nat.{ℕ, _+_, _-_, _*_, _≤_}
 use native.Mathlib.Omega.{arith}
 use mathlib.Core.Path.{_≡_, sym, ap, subst, subst⁻¹, _∙_}
 use mathlib.Core.List.{List}
@@ -17,25 +17,26 @@ use Rattle.layout.specs.Boxes.{boxCount}
 use Rattle.layout.specs.Contents.{boxElements}
 use Rattle.layout.proofs.CallLaws.{Admitted, admitted, admit-front}
 use Rattle.cube.specs.Steps.{AtomEnd, rowBlock}
+use Rattle.cube.proofs.RunLaws.{plane-le}
 use Rattle.cube.proofs.ReadLaws.{RowRead, read-keep, read-toward, read-reached, read-only}
 use Rattle.cube.proofs.read.all.Statement.{statement}
 use Rattle.cube.proofs.read.all.Tie as tie
 
 abbrev Inv-loop2 : tie.InvT-loop2
-Inv-loop2 layout box buffer elements₀ e first channels rows n m r₀ elements r =
+Inv-loop2 layout box buffer elements₀ e first channels rows line plane n m r₀ elements r =
     (r ≤ box .rows)
     × (length elements₀ ≡ boxCount box
     → Toward (pos 0) (boxElements layout box buffer) elements₀ elements × Rows (RowRead box (boxElements layout box buffer) elements) n m r)
 
 abbrev μ-loop2 : tie.MeasureT-loop2
-μ-loop2 layout box buffer elements₀ e first channels rows n m r₀ elements r = box .rows - r
+μ-loop2 layout box buffer elements₀ e first channels rows line plane n m r₀ elements r = box .rows - r
 
 abbrev Inv-loop : tie.InvT-loop
-Inv-loop layout box buffer elements₀ e first channels rows n₀ elements n =
+Inv-loop layout box buffer elements₀ e first channels rows line plane n₀ elements n =
     (n ≤ box .channels) × (length elements ≡ boxCount box) × Before (RowRead box (boxElements layout box buffer) elements) (box .rows) n
 
 abbrev μ-loop : tie.MeasureT-loop
-μ-loop layout box buffer elements₀ e first channels rows n₀ elements n = box .channels - n
+μ-loop layout box buffer elements₀ e first channels rows line plane n₀ elements n = box .channels - n
 
 abbrev goal : tie.Start Inv-loop2 μ-loop2 Inv-loop μ-loop → List ℤ
 goal s = let a = s .args in boxElements (a .layout) (a .b) (a .buffer .now)
@@ -72,7 +73,7 @@ turn c h =
     let d = adm s in
     let m = t .atom-end .result in
     let so = l2 .loop2 .inv .1 h in
-    let block = rowBlock (a .layout) (a .b) (l .loop .n) m (l2 .loop2 .r) in
+    let block = rowBlock (a .layout) (a .b) (a .b .rows * a .b .columns) (a .b .columns) (l .loop .n) m (l2 .loop2 .r) in
     let long : length (l2 .loop2 .elements) ≡ boxCount (a .b) = so .0 .long ∙ h in
     let is : _≡_ {A = List ℤ} (f .read .last .1 .1 .0) (blockRead block (a .buffer .now) (l2 .loop2 .elements)) =
     f .read .ensures ∙ ap (λ (b : ColumnBlock). blockRead b (a .buffer .now) (l2 .loop2 .elements)) (f .before .before .row .ensures) in
@@ -87,6 +88,9 @@ turn c h =
 
 element-bytes-requires : tie.Need-element-bytes-requires Inv-loop2 μ-loop2 Inv-loop μ-loop
 element-bytes-requires c κs = search needs
+
+mul-plane : tie.Need-mul-plane Inv-loop2 μ-loop2 Inv-loop μ-loop
+mul-plane c = let s = c .before .before in omega (arith, plane-le (s .args .layout) (s .args .b) (adm s .layout) (adm s .inside))
 
 loop-holds : tie.Need-loop-holds Inv-loop2 μ-loop2 Inv-loop μ-loop
 loop-holds c = let s = c .before .before in
@@ -162,6 +166,7 @@ all-spec =
     Inv-loop
     μ-loop
     element-bytes-requires
+    mul-plane
     loop-holds
     atom-end-requires
     loop2-holds

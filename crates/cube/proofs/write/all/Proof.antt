@@ -16,39 +16,40 @@ use Rattle.columns.specs.declared.ColumnBlock.{ColumnBlock}
 use Rattle.columns.specs.Blocks.{blockWritten, cleared}
 use Rattle.layout.specs.declared.ElementBox.{ElementBox}
 use Rattle.layout.specs.Geometry.{sizeOf, cubeExtent}
-use Rattle.layout.proofs.CallLaws.{Admitted, admitted, admit-front}
-use Rattle.cube.specs.Steps.{AtomEnd, rowBlock, rowWritten, boxWritten}
+use Rattle.layout.specs.Contents.{zerosOf}
+use Rattle.layout.proofs.CallLaws.{Admitted, clear-admitted, clear-front}
+use Rattle.cube.specs.Steps.{AtomEnd, rowBlock, rowWritten, gathered, boxWritten}
 use Rattle.cube.proofs.GoalLaws.{Goal, Reached, reached-keep, written-goal}
 use Rattle.cube.proofs.WriteLaws.{RowDone, row-done}
 use Rattle.cube.proofs.write.all.Statement.{statement}
 use Rattle.cube.proofs.write.all.Tie as tie
 
 abbrev Inv-loop2 : tie.InvT-loop2
-Inv-loop2 layout box pad elements buffer₀ e first channels rows n m r₀ buffer r =
+Inv-loop2 layout box pad elements plane line buffer₀ e first channels rows n m r₀ buffer r =
     (r ≤ box .rows)
-    × ((before goal : List ℕ) → length buffer₀ ≡ length before → Goal layout box pad elements before goal
+    × ((before goal : List ℕ) → length buffer₀ ≡ length before → Goal layout box pad plane line elements before goal
     → Toward 0 goal buffer₀ buffer × Rows (Reached layout box pad goal buffer) n m r)
 
 abbrev μ-loop2 : tie.MeasureT-loop2
-μ-loop2 layout box pad elements buffer₀ e first channels rows n m r₀ buffer r = box .rows - r
+μ-loop2 layout box pad elements plane line buffer₀ e first channels rows n m r₀ buffer r = box .rows - r
 
 abbrev Inv-loop : tie.InvT-loop
-Inv-loop layout box pad elements buffer₀ e first channels rows n₀ buffer n =
+Inv-loop layout box pad elements plane line buffer₀ e first channels rows n₀ buffer n =
     (n ≤ box .channels) × (pad ≡ true → n < box .channels → n * sizeOf layout % 32 ≡ 0)
-    × Toward 0 (boxWritten layout box pad elements buffer₀) buffer₀ buffer
-    × Before (Reached layout box pad (boxWritten layout box pad elements buffer₀) buffer) (box .rows) n
+    × Toward 0 (boxWritten layout box pad (gathered box plane line elements) buffer₀) buffer₀ buffer
+    × Before (Reached layout box pad (boxWritten layout box pad (gathered box plane line elements) buffer₀) buffer) (box .rows) n
 
 abbrev μ-loop : tie.MeasureT-loop
-μ-loop layout box pad elements buffer₀ e first channels rows n₀ buffer n = box .channels - n
+μ-loop layout box pad elements plane line buffer₀ e first channels rows n₀ buffer n = box .channels - n
 
 abbrev goal : tie.Start Inv-loop2 μ-loop2 Inv-loop μ-loop → List ℕ
-goal s = let a = s .args in boxWritten (a .layout) (a .b) (a .pad) (a .elements .now) (a .buffer .now)
+goal s = let a = s .args in boxWritten (a .layout) (a .b) (a .pad) (gathered (a .b) (a .plane) (a .line) (a .elements .now)) (a .buffer .now)
 
-adm : (s : tie.Start Inv-loop2 μ-loop2 Inv-loop μ-loop) → let a = s .args in Admitted (a .layout) (a .b) (length (a .elements .now)) (length (a .buffer .now))
-adm s = let a = s .args in admitted (a .layout) (a .b) (length (a .elements .now)) (length (a .buffer .now)) (s .pre .0)
+adm : (s : tie.Start Inv-loop2 μ-loop2 Inv-loop μ-loop) → let a = s .args in Admitted (a .layout) (a .b) (length (zerosOf (a .b))) (length (a .buffer .now))
+adm s = let a = s .args in clear-admitted (a .layout) (a .b) (length (a .buffer .now)) (s .pre .0)
 
-is-goal : (s : tie.Start Inv-loop2 μ-loop2 Inv-loop μ-loop) → let a = s .args in Goal (a .layout) (a .b) (a .pad) (a .elements .now) (a .buffer .now) (goal s)
-is-goal s = let a = s .args in written-goal (a .layout) (adm s .layout) (a .b) (adm s .inside) (a .pad) (s .pre .1) (a .elements .now) (a .buffer .now) (adm s .room)
+is-goal : (s : tie.Start Inv-loop2 μ-loop2 Inv-loop μ-loop) → let a = s .args in Goal (a .layout) (a .b) (a .pad) (a .plane) (a .line) (a .elements .now) (a .buffer .now) (goal s)
+is-goal s = let a = s .args in written-goal (a .layout) (adm s .layout) (a .b) (adm s .inside) (a .pad) (s .pre .1 .0) (a .plane) (a .line) (a .elements .now) (a .buffer .now) (adm s .room)
 
 rows-small : (s : tie.Start Inv-loop2 μ-loop2 Inv-loop μ-loop) → s .args .b .rows ≤ 8192
 rows-small s = omega (arith, adm s .inside .rows .fit, adm s .layout .height-le)
@@ -64,7 +65,7 @@ end-is c =
 -- in the whole cube, the next channels begin an atom
 begins : (s : tie.Start Inv-loop2 μ-loop2 Inv-loop μ-loop) → s .args .pad ≡ true → (m : ℕ) → (s .args .b .channel + m) * sizeOf (s .args .layout) % 32 ≡ 0 → m * sizeOf (s .args .layout) % 32 ≡ 0
 begins s t m e = let a = s .args in
-    let zero : a .b .channel + m ≡ m = omega (arith, ap (λ (b : ElementBox). b .channel) (s .pre .1 t)) in
+    let zero : a .b .channel + m ≡ m = omega (arith, ap (λ (b : ElementBox). b .channel) (s .pre .1 .0 t)) in
     ap (λ (x : ℕ). x * sizeOf (a .layout) % 32) (sym zero) ∙ e
 
 -- a row's atoms cleared, or not
@@ -83,7 +84,7 @@ turn : (c : tie.After-slice-known3 Inv-loop2 μ-loop2 Inv-loop μ-loop) → let 
     let l2 = i .before in
     let t = l2 .before in
     let a = t .before .before .before .before .before .args in
-    (before g : List ℕ) → length (t .before .before .loop .buffer) ≡ length before → Goal (a .layout) (a .b) (a .pad) (a .elements .now) before g
+    (before g : List ℕ) → length (t .before .before .loop .buffer) ≡ length before → Goal (a .layout) (a .b) (a .pad) (a .plane) (a .line) (a .elements .now) before g
     → Toward 0 g (t .before .before .loop .buffer) (c .before .before .write .last .1 .1 .0) × Rows (Reached (a .layout) (a .b) (a .pad) g (c .before .before .write .last .1 .1 .0)) (t .before .before .loop .n) (t .atom-end .result) (l2 .loop2 .r + 1)
 unfolding rowWritten
 turn c before g h w =
@@ -99,11 +100,11 @@ turn c before g h w =
     let m = t .atom-end .result in
     let so = l2 .loop2 .inv .1 before g h w in
     let room = subst (λ (x : ℕ). a .layout .start + cubeExtent (a .layout) ≤ x) (sym (l .loop .inv .2 .long) ∙ h) (d .room) in
-    let is : _≡_ {A = List ℕ} (f .write .last .1 .1 .0) (rowWritten (rowBlock (a .layout) (a .b) (l .loop .n) m (l2 .loop2 .r)) (a .pad && eqb m (a .b .channels)) (a .elements .now) (l2 .loop2 .buffer)) =
+    let is : _≡_ {A = List ℕ} (f .write .last .1 .1 .0) (rowWritten (rowBlock (a .layout) (a .b) (a .plane) (a .line) (l .loop .n) m (l2 .loop2 .r)) (a .pad && eqb m (a .b .channels)) (a .elements .now) (l2 .loop2 .buffer)) =
     f .write .ensures ∙ ap (blockWritten (k .before .row .result) (a .elements .now)) (came k) ∙ ap (λ (b : ColumnBlock). rowWritten b (a .pad && eqb m (a .b .channels)) (a .elements .now) (l2 .loop2 .buffer)) (k .before .row .ensures) in
-    let one = row-done (a .layout) (d .layout) (a .b) (d .inside) (a .pad) (a .elements .now) (d .count) before g room w (l .loop .n) m (l2 .loop2 .r) (end-is t) (i .loop2-test .taken)
+    let one = row-done (a .layout) (d .layout) (a .b) (d .inside) (a .pad) (a .plane) (a .line) (a .elements .now) (s .pre .1 .1) before g room w (l .loop .n) m (l2 .loop2 .r) (end-is t) (i .loop2-test .taken)
     (λ pt. l .loop .inv .1 pt (t .before .loop-test .taken)) (l2 .loop2 .buffer) (so .0 .long ∙ h) (a .pad && eqb m (a .b .channels)) refl in
-    let two = subst⁻¹ (λ (x : List ℕ). RowDone (a .layout) (d .layout) (a .b) (d .inside) (a .pad) (a .elements .now) (d .count) before g room w (l .loop .n) m (l2 .loop2 .r) (end-is t) (i .loop2-test .taken) (l2 .loop2 .buffer) x) is one in (
+    let two = subst⁻¹ (λ (x : List ℕ). RowDone (a .layout) (d .layout) (a .b) (d .inside) (a .pad) (a .plane) (a .line) (a .elements .now) (s .pre .1 .1) before g room w (l .loop .n) m (l2 .loop2 .r) (end-is t) (i .loop2-test .taken) (l2 .loop2 .buffer) x) is one in (
       toward-trans 0 g (so .0) (two .near),
       rows-more (Reached (a .layout) (a .b) (a .pad) g (l2 .loop2 .buffer)) (Reached (a .layout) (a .b) (a .pad) g (f .write .last .1 .1 .0))
           (λ x k r. reached-keep (a .layout) (a .b) (a .pad) g (two .near) x k r) (l .loop .n) m (l2 .loop2 .r) (so .1) (two .reached),
@@ -136,7 +137,7 @@ row-requires : tie.Need-row-requires Inv-loop2 μ-loop2 Inv-loop μ-loop
 row-requires c κs = let t = c .before .before in
     let s = t .before .before .before .before .before in
     let e = end-is t in
-    (admit-front (s .args .layout) (s .args .b) (length (s .args .elements .now)) (length (s .args .buffer .now)) (s .pre .0), (e .some, e .le, c .loop2-test .taken))
+    (clear-front (s .args .layout) (s .args .b) (length (s .args .buffer .now)) (s .pre .0), (e .some, e .le, c .loop2-test .taken))
 
 cast-clear : tie.Need-cast-clear Inv-loop2 μ-loop2 Inv-loop μ-loop
 cast-clear c = search needs

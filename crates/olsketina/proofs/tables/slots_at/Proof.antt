@@ -12,6 +12,7 @@ use Rattle.olsketina.specs.Sizes.{slotSize, slotCount}
 use Rattle.olsketina.specs.Words.{overwritten}
 use Rattle.olsketina.specs.Tables.{regionAt, slotsAt}
 use Rattle.olsketina.proofs.OverLaws.{overwritten-length, overwritten-next}
+use borrow.Author.Needs.{needs}
 use Rattle.olsketina.proofs.tables.slots_at.Statement.{statement}
 use Rattle.olsketina.proofs.tables.slots_at.Tie as tie
 
@@ -30,7 +31,7 @@ loop-holds c = (omega arith, unfold overwritten in refl)
 
 -- the slots have kept their number
 long : (c : tie.At-loop Inv-loop μ-loop) → length (c .loop .slots) ≡ slotCount
-long c = let a = c .before .before .args in ap length (c .loop .inv .1) ∙ overwritten-length noRegion (made (a .words .now) (a .at)) 0 _ (c .loop .i)
+long c = let a = c .before .before .before .args in ap length (c .loop .inv .1) ∙ overwritten-length noRegion (made (a .words .now) (a .at)) 0 _ (c .loop .i)
 
 array-set-from-slots : tie.Need-array-set-from-slots Inv-loop μ-loop
 array-set-from-slots c = omega (arith, long (c .before .before))
@@ -38,7 +39,7 @@ array-set-from-slots c = omega (arith, long (c .before .before))
 loop-again : tie.Need-loop-again Inv-loop μ-loop
 loop-again c =
     let l = c .before .before in
-    let a = l .before .before .args in
+    let a = l .before .before .before .args in
     (omega arith, rw (c .region-at .ensures) (rw zero-add at (overwritten-next noRegion (made (a .words .now) (a .at)) 0 _ (l .loop .i) (l .loop .inv .1))))
 
 returns : tie.Need-returns Inv-loop μ-loop
@@ -53,6 +54,7 @@ slots-at-spec =
     (tie.spec
     Inv-loop
     μ-loop
+    (search needs)
     loop-holds
     (λ c. omega arith)
     (λ c. omega arith)

@@ -24,6 +24,12 @@ enum-known-item-3 c = search needs
 cell-requires : tie.Need-cell-requires
 cell-requires c κs = search needs
 
+enum-known-item-4 : tie.Need-enum-known-item-4
+enum-known-item-4 c = search needs
+
+leave-requires : tie.Need-leave-requires
+leave-requires c κs = search needs
+
 enum-told : tie.Need-enum-told
 enum-told c = search needs
 
@@ -40,7 +46,10 @@ returns-3 : tie.Need-returns-3
 returns-3 c = rw (c .before .before .item3 .given .1) (c .cell .ensures)
 
 returns-4 : tie.Need-returns-4
-returns-4 c = let a = c .before .before .before .args in rw (c .before .enum-told .given .1) (c .refused .ensures ∙ record-unreadable (desk (a .framed) (a .table)))
+returns-4 c = rw (c .before .before .item4 .given .1) (c .leave .ensures)
+
+returns-5 : tie.Need-returns-5
+returns-5 c = let a = c .before .before .before .args in rw (c .before .enum-told .given .1) (c .refused .ensures ∙ record-unreadable (desk (a .framed) (a .table)))
 
 pub after-record-spec : {M : Type 1} → statement M
 after-record-spec =
@@ -52,9 +61,12 @@ after-record-spec =
     stall-requires
     enum-known-item-3
     cell-requires
+    enum-known-item-4
+    leave-requires
     enum-told
     refused-requires
     returns
     returns-2
     returns-3
-    returns-4)
+    returns-4
+    returns-5)

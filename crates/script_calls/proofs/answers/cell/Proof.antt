@@ -12,7 +12,7 @@ refused-requires c κs = search needs
 
 returns : tie.Need-returns
 returns c = let a = c .before .before .args in
-    c .refused .ensures ∙ cell-unframed (desk (a .framed) (a .table)) (a .slot) (a .channel) (a .row) (a .column) (not-true _ (c .before .if1 .taken))
+    c .refused .ensures ∙ cell-unframed (desk (a .framed) (a .table)) (a .slot) (a .channel) (a .row) (a .column) (a .id) (not-true _ (c .before .if1 .taken))
 
 position-requires : tie.Need-position-requires
 position-requires c κs = search needs
@@ -30,13 +30,13 @@ returns-2 : tie.Need-returns-2
 returns-2 c = let p = c .before .before .before .before in
     let a = p .before .before .args in
     c .refused2 .ensures
-    ∙ cell-refused (desk (a .framed) (a .table)) (a .slot) (a .channel) (a .row) (a .column) (not-false _ (p .before .if1 .left))
+    ∙ cell-refused (desk (a .framed) (a .table)) (a .slot) (a .channel) (a .row) (a .column) (a .id) (not-false _ (p .before .if1 .left))
     (sym (p .position .ensures) ∙ c .before .before .refusal .given .1)
 
 returns-3 : tie.Need-returns-3
 returns-3 c = let p = c .before .before .before in
     let a = p .before .before .args in
-    cell-at (desk (a .framed) (a .table)) (a .slot) (a .channel) (a .row) (a .column) (not-false _ (p .before .if1 .left)) (sym (p .position .ensures) ∙ c .before .value .given .1)
+    cell-at (desk (a .framed) (a .table)) (a .slot) (a .channel) (a .row) (a .column) (a .id) (not-false _ (p .before .if1 .left)) (sym (p .position .ensures) ∙ c .before .value .given .1)
 
 pub cell-spec : {M : Type 1} → statement M
 cell-spec =

@@ -7,14 +7,14 @@ use Rattle.script_calls.proofs.answers.region_count.Statement.{statemen
 use Rattle.script_calls.proofs.answers.region_count.Tie as tie
 
 mul-result : tie.Need-mul-result
-mul-result c = let a = c .args in omega (arith, count-le (a .table) (a .slot) (a .column) (a .row) (a .columns) (a .rows) (c .pre))
+mul-result c = let a = c .args in omega (arith, count-le (a .table) (a .slot) (a .column) (a .row) (a .columns) (a .rows) (a .id) (c .pre))
 
 cast-result : tie.Need-cast-result
 cast-result c = search needs
 
 mul-result-2 : tie.Need-mul-result-2
 mul-result-2 c = let a = c .before .args in
-    omega (arith, count-all-le (a .table) (a .slot) (a .column) (a .row) (a .columns) (a .rows) (c .before .pre))
+    omega (arith, count-all-le (a .table) (a .slot) (a .column) (a .row) (a .columns) (a .rows) (a .id) (c .before .pre))
 
 returns : tie.Need-returns
 returns c = search needs

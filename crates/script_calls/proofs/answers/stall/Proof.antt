@@ -15,7 +15,7 @@ refused-requires c κs = search needs
 
 returns : tie.Need-returns
 returns c = let a = c .before .before .args in
-    c .refused .ensures ∙ stall-unframed (desk (a .framed) (a .table)) (a .slot) (a .column) (a .row) (a .columns) (a .rows) (not-true _ (c .before .if1 .taken))
+    c .refused .ensures ∙ stall-unframed (desk (a .framed) (a .table)) (a .slot) (a .column) (a .row) (a .columns) (a .rows) (a .id) (not-true _ (c .before .if1 .taken))
 
 place-requires : tie.Need-place-requires
 place-requires c κs = search needs
@@ -31,7 +31,7 @@ enum-told c = search needs
 
 accepted : (c : tie.After-enum-told)
     → let a = c .before .before .before .before .before .args in
-    placeAnswer (a .table) (a .slot) (rectangle (a .column) (a .row) (a .columns) (a .rows)) ≡ Accepted
+    placeAnswer (a .table) (a .slot) (a .id) (rectangle (a .column) (a .row) (a .columns) (a .rows)) ≡ Accepted
 accepted c = sym (c .before .before .before .place .ensures .0) ∙ c .enum-told .given .1
 
 region-count-requires : tie.Need-region-count-requires
@@ -41,13 +41,13 @@ returns-2 : tie.Need-returns-2
 returns-2 c = let p = c .before .before .before .before .before in
     let a = p .before .before .args in
     c .refused2 .ensures
-    ∙ stall-refused (desk (a .framed) (a .table)) (a .slot) (a .column) (a .row) (a .columns) (a .rows) (not-false _ (p .before .if1 .left))
+    ∙ stall-refused (desk (a .framed) (a .table)) (a .slot) (a .column) (a .row) (a .columns) (a .rows) (a .id) (not-false _ (p .before .if1 .left))
     (sym (p .place .ensures .0) ∙ c .before .before .answer .given .1)
 
 returns-3 : tie.Need-returns-3
 returns-3 c = let p = c .before .before .before .before in
     let a = p .before .before .args in
-    stall-placed (desk (a .framed) (a .table)) (a .slot) (a .column) (a .row) (a .columns) (a .rows) (not-false _ (p .before .if1 .left))
+    stall-placed (desk (a .framed) (a .table)) (a .slot) (a .column) (a .row) (a .columns) (a .rows) (a .id) (not-false _ (p .before .if1 .left))
     (accepted (c .before)) (c .region-count .ensures) (p .place .ensures .1)
 
 pub stall-spec : {M : Type 1} → statement M
