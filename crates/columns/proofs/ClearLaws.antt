@@ -3,7 +3,7 @@
 --     cleared-length              the buffer keeps its length
 --     cleared-none, cleared-more  no byte; one more
 --     cleared-all                 as far as the bytes are there
-use Prim.Native.Nat.{ℕ, _+_, _-_, _≤_, _<_}
+use Prim.Native.Nat.{ℕ, _+_, _≤_, _<_}
 use native.Mathlib.Omega.{arith}
 use native.Mathlib.Decide.{decLt, ℕ-discrete}
 use mathlib.Core.Path.{_≡_, refl, sym, ap, subst, _∙_}

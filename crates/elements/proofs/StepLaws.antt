@@ -5,7 +5,7 @@
 --     raised-valid, or-below                   an element 128 higher, and the bits of two numbers, below 256
 --     allValid-none, allValid-next             no element yet; one element more
 --     allValid-at, allValid-all                a pass that found no fault took each element, and back
-use Prim.Native.Nat.{ℕ, zero, suc, _+_, _*_, _/_, _%_, _^_, _<_, _≤_}
+use Prim.Native.Nat.{ℕ, zero, suc, _+_, _*_, _%_, _^_, _<_, _≤_}
 use mathlib.Core.Path.{_≡_, refl, sym, ap, _∙_}
 use mathlib.Core.Bool.{Bool, true, false, _&&_}
 use mathlib.Core.List.{List}

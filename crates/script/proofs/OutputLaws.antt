@@ -3,7 +3,7 @@
 --     fields-is        three fields added one after another
 --     plain-value      a value without a minus
 --     handed-over      what is handed over to be written, row by row, is the rows' text
-use Prim.Native.Nat.{ℕ, zero, suc, _+_, _^_, _≤_, _<_}
+use Prim.Native.Nat.{ℕ, zero, suc, _^_, _≤_, _<_}
 use native.Mathlib.Omega.{arith}
 use mathlib.Core.Path.{_≡_, refl, _∙_}
 use mathlib.Core.Bool.{Bool, false}

@@ -1,7 +1,7 @@
 -- What a run of the sheet program wrote (scope paper, "The sheet program"). Assumes nothing.
-use Prim.Native.Nat.{ℕ, _^_, _<_}
+use Prim.Native.Nat.{_^_, _<_}
 use mathlib.Core.Path.{_≡_}
-use mathlib.Core.List.{List, flatten}
+use mathlib.Core.List.{flatten}
 use lib.ListN.{length}
 use Rattle.lines.specs.Texts.{linesOf}
 use Rattle.script.specs.Output.{output}

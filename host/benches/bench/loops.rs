@@ -3,6 +3,7 @@
 
 use crate::reference::{cube, elements, lookup as plain_lookup, regions, weights};
 use olsketina::{Answer, Counters, ElementBox, Layout, Lookup, Mode, Slope, Table, TableSettings, Weights};
+use std::iter::repeat;
 use std::ops::Range;
 
 const ATOM: usize = 32;
@@ -73,6 +74,17 @@ pub fn pack(layout: Layout, elements: &[i16], buffer: &mut [u8]) -> Answer<()> {
 pub fn edit(table: &Table, slot: u32, id: u32, part: ElementBox, elements: &[i16], buffer: &mut [u8]) -> Answer<()> {
     let regions::InCube { first, sizes, .. } = regions::admitted(table, slot, id, part, elements.len(), buffer.len())?;
     write_box(table.layout(), [first, sizes].map(|sizes| sizes.map(|size| size as usize)), false, elements, buffer)
+}
+
+#[inline(never)]
+pub fn release(table: &mut Table, slot: u32, id: u32, buffer: &mut [u8]) -> Answer<()> {
+    let regions::InCube { first, sizes, .. } = regions::releasable(table, slot, id, buffer.len())?;
+    let layout = table.layout();
+    walk_box(layout, [first, sizes].map(|sizes| sizes.map(|size| size as usize)), |byte, atoms, _| {
+        write(layout.precision, buffer[atoms].chunks_exact_mut(ATOM), byte % ATOM, repeat(&0));
+    });
+    *table = regions::emptied(table, slot);
+    Ok(())
 }
 
 #[inline(never)]

@@ -189,21 +189,44 @@ fn unpack<S: Copy>(name: &str, repetitions: usize, (setting, elements, bytes): P
     convey(name, repetitions, elements.len(), setting, &bytes, &vec![0; elements.len()], calls)
 }
 
-/// A box of 64×64 over all channels, which fill their atoms, in a region of 128×128.
+const SLOT: u32 = 5;
+const ID: u32 = 1;
+
+/// The lines of 64×64 atoms from this column and row on, in every surface; all channels fill their atoms.
+fn lines(layout: Layout, [column, row]: [u32; 2], bytes: usize) -> Vec<Range<usize>> {
+    let corner = row * layout.line + 32 * column;
+    let surfaces = (corner as usize..bytes).step_by(layout.surface as usize);
+    surfaces.flat_map(|at| (at..).step_by(layout.line as usize).take(64).map(|at| at..at + 32 * 64)).collect()
+}
+
+/// A box of 64×64 over all channels, in a region of 128×128.
 fn edit(name: &str, words: [u32; 4]) -> Row {
-    const SLOT: u32 = 5;
-    const ID: u32 = 1;
     let (layout, elements, bytes) = cube(words);
     let mut table = Table::empty(layout);
     table.place(SLOT, ID, [96, 80, 128, 128].into()).expect("accepted");
     let part = [0, 24, 40, layout.channels, 64, 64].into();
-    let corner = (80 + 24) * layout.line + 32 * (96 + 40);
-    let surfaces = (corner as usize..bytes.len()).step_by(layout.surface as usize);
-    let lines = surfaces.flat_map(|at| (at..).step_by(layout.line as usize).take(64).map(|at| at..at + 32 * 64));
     let cells = draw::product(&[layout.channels, 64, 64]);
     let calls = [Table::edit, loops::edit]
         .map(|call| move |from: &[i16], to: &mut [u8]| call(black_box(&table), SLOT, ID, black_box(part), from, to).map(|()| [0; 5]));
-    measure(name, 1001, cells, &elements[..cells], &vec![LEFT; bytes.len()], &lines.collect::<Vec<_>>(), calls)
+    let written = lines(layout, [96 + 40, 80 + 24], bytes.len());
+    measure(name, 1001, cells, &elements[..cells], &vec![LEFT; bytes.len()], &written, calls)
+}
+
+/// A region of 64×64, released from a copy of its table; one byte stands for the input that there is not.
+fn release(name: &str, words: [u32; 4]) -> Row {
+    let (layout, _, bytes) = cube(words);
+    let mut table = Table::empty(layout);
+    table.place(SLOT, ID, [96, 80, 64, 64].into()).expect("accepted");
+    let cells = draw::product(&[layout.channels, 64, 64]);
+    let calls = [Table::release, loops::release].map(|call| {
+        move |_: &[u8], to: &mut [u8]| {
+            let mut table = *black_box(&table);
+            let answer = call(&mut table, SLOT, ID, to).map(|()| [0; 5]);
+            black_box(&table);
+            answer
+        }
+    });
+    measure(name, 1001, cells, &[0], &vec![LEFT; bytes.len()], &lines(layout, [96, 80], bytes.len()), calls)
 }
 
 /// Y of 256 steps of 16 from `y_start`; Priority X, OverflowPriority X, UnderflowPriority Y.
@@ -280,6 +303,8 @@ fn main() {
         unpack_cube("unpack 1024×64×64 int16", [1024, 64, 64, 1]),
         at_most(6.0, MEMCPY, edit("edit 64×64 over 32 channels int8", [640, 480, 32, 0])),
         edit("edit 64×64 over 32 channels int16", [640, 480, 32, 1]),
+        release("release 64×64 over 32 channels int8", [640, 480, 32, 0]),
+        release("release 64×64 over 32 channels int16", [640, 480, 32, 1]),
         at_most(9.0, MEMCPY, pack_weights("weights 256×256×3×3 int8", [256, 256, 3, 3, 0])),
         pack_weights("weights 256×256×1×1 int8", [256, 256, 1, 1, 0]),
         unpack_weights("unpack weights 256×256×3×3 int8", [256, 256, 3, 3, 0]),

@@ -1,5 +1,4 @@
 -- `board::run_on` is safe and ends: each count is at most the length of the list of which a part is lent. Assumes nothing.
-use Prim.Native.Nat.{_-_}
 use mathlib.Core.Path.{sym}
 use native.Mathlib.Omega.{arith}
 use lib.Seq.{length-take-le}

@@ -1,6 +1,6 @@
 -- `lines_calls::add_number` meets its contract. The loop's invariant: the digits of what is left of the number, and those written, are the number's; what
 -- is left has at most `at` digits. The measure is what is left. Assumes nothing.
-use Prim.Native.Nat.{_+_, _-_, _<_, _^_}
+use Prim.Native.Nat.{_-_, _<_, _^_}
 use mathlib.Core.Path.{_≡_, refl, _∙_}
 use mathlib.Core.List.{_++_}
 use native.Mathlib.Omega.{arith}

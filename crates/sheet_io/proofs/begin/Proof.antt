@@ -1,9 +1,7 @@
 -- `sheet_io::begin` meets its contract: the header is written. Assumes nothing.
-use mathlib.Core.Path.{_≡_, ap, _∙_}
 use borrow.Author.Needs.{needs}
 use Rattle.lines.proofs.HoldLaws.{written-text}
 use Rattle.script.specs.Output.{header}
-use Rattle.sheet_io.specs.Printing.{checksum}
 use Rattle.sheet_io.proofs.begin.Statement.{statement}
 use Rattle.sheet_io.proofs.begin.Tie as tie
 

@@ -1,5 +1,5 @@
 -- `sheet_io::write` meets its contract: all bytes of the text are kept. Assumes nothing.
-use Prim.Native.Nat.{_≤_, min}
+use Prim.Native.Nat.{_≤_}
 use mathlib.Core.Path.{_≡_, sym, ap, _∙_}
 use native.Mathlib.Nat.{min-le-right}
 use native.Mathlib.Omega.{arith}

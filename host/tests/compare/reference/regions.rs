@@ -49,6 +49,11 @@ pub fn with_slot(table: &Table, slot: usize, words: [u32; SLOT]) -> Table {
     Table::from_words(all)
 }
 
+/// The table with a slot as an empty table has it.
+pub fn emptied(table: &Table, slot: u32) -> Table {
+    with_slot(table, slot as usize, [0; SLOT])
+}
+
 /// A box of one cube: its first element and its sizes, by channel, row and column.
 pub struct InCube {
     pub cube: Cube,
@@ -114,11 +119,17 @@ pub fn read(table: &Table, slot: u32, id: u32, part: ElementBox, buffer: &[u8], 
     Ok(())
 }
 
+/// All of the owner's region, once 5 is checked too: of a release that lends so many bytes.
+pub fn releasable(table: &Table, slot: u32, id: u32, bytes: usize) -> Answer<InCube> {
+    let all = whole(table, slot, id)?;
+    all.cube.check_length(bytes)?;
+    Ok(all)
+}
+
 pub fn release(table: &mut Table, slot: u32, id: u32, buffer: &mut [u8]) -> Answer<()> {
-    let InCube { cube, first, sizes } = whole(table, slot, id)?;
-    cube.check_length(buffer.len())?;
+    let InCube { cube, first, sizes } = releasable(table, slot, id, buffer.len())?;
     cube.positions(first, sizes).for_each(|at| buffer[at..][..bytes_of(cube.precision) as usize].fill(0));
-    *table = with_slot(table, slot as usize, [0; SLOT]);
+    *table = emptied(table, slot);
     Ok(())
 }
 

@@ -1,5 +1,4 @@
 -- `board::lookup::run_split` is safe and ends: the split is at most the number of entries. Assumes nothing.
-use Prim.Native.Nat.{_-_}
 use mathlib.Core.Path.{sym}
 use native.Mathlib.Omega.{arith}
 use lib.Seq.{length-take-le}

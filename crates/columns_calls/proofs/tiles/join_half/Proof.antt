@@ -1,9 +1,8 @@
 -- `columns_calls::tiles::join_half` meets its contract. The loop's invariant: the first 2 i units of the tile are those of the columns. Assumes nothing.
 use Prim.Native.Nat.{ℕ, _+_, _-_, _*_, _/_, _%_, _<_, _≤_}
 use native.Mathlib.Omega.{arith}
-use mathlib.Core.Path.{_≡_, refl, ap, _∙_}
+use mathlib.Core.Path.{_≡_, ap, _∙_}
 use mathlib.Core.Logic.{inl, inr, ⊎-elim}
-use mathlib.Core.List.{List}
 use lib.ListN.{length, getD, length-set}
 use lib.IntN.{ℤ}
 use Rattle.columns.specs.Columns.{columnUnit, listed}

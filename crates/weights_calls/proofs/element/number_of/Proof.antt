@@ -5,7 +5,7 @@ use native.Mathlib.Omega.{arith}
 use mathlib.Core.Path.{_≡_, sym, subst}
 use lib.Arith.{digits-lt}
 use Rattle.weights.specs.declared.WeightLayout.{WeightLayout}
-use Rattle.weights.specs.Geometry.{groupOf, groupSize, groupKernels, blockChannels, offsetNumber, elementNumber}
+use Rattle.weights.specs.Geometry.{groupOf, groupKernels, blockChannels, offsetNumber, elementNumber}
 use Rattle.weights.proofs.Valid.{Valid, valid}
 use Rattle.weights.proofs.NumberLaws.{groupSize-pos, groupSize-le}
 use Rattle.weights.proofs.BoundLaws.{pixels-le, Pieces, groups-le, blocks-le, pixel-kernels-le, within-le, before-le}
