@@ -50,6 +50,10 @@ fn whole(layout: Layout) -> [[usize; 3]; 2] {
     [[0; 3], [layout.channels, layout.height, layout.width].map(|size| size as usize)]
 }
 
+fn inside(part: regions::InCube) -> [[usize; 3]; 2] {
+    [part.first, part.sizes].map(|numbers| numbers.map(|number| number as usize))
+}
+
 /// Writes a box; where it begins an atom that the channels do not fill, it may clear it.
 fn write_box(layout: Layout, part: [[usize; 3]; 2], clear: bool, elements: &[i16], buffer: &mut [u8]) -> Answer<()> {
     elements::check_values(layout.precision, elements)?;
@@ -72,15 +76,15 @@ pub fn pack(layout: Layout, elements: &[i16], buffer: &mut [u8]) -> Answer<()> {
 
 #[inline(never)]
 pub fn edit(table: &Table, slot: u32, id: u32, part: ElementBox, elements: &[i16], buffer: &mut [u8]) -> Answer<()> {
-    let regions::InCube { first, sizes, .. } = regions::admitted(table, slot, id, part, elements.len(), buffer.len())?;
-    write_box(table.layout(), [first, sizes].map(|sizes| sizes.map(|size| size as usize)), false, elements, buffer)
+    let part = regions::admitted(table, slot, id, part, elements.len(), buffer.len())?;
+    write_box(table.layout(), inside(part), false, elements, buffer)
 }
 
 #[inline(never)]
 pub fn release(table: &mut Table, slot: u32, id: u32, buffer: &mut [u8]) -> Answer<()> {
-    let regions::InCube { first, sizes, .. } = regions::releasable(table, slot, id, buffer.len())?;
+    let all = regions::releasable(table, slot, id, buffer.len())?;
     let layout = table.layout();
-    walk_box(layout, [first, sizes].map(|sizes| sizes.map(|size| size as usize)), |byte, atoms, _| {
+    walk_box(layout, inside(all), |byte, atoms, _| {
         write(layout.precision, buffer[atoms].chunks_exact_mut(ATOM), byte % ATOM, repeat(&0));
     });
     *table = regions::emptied(table, slot);
