@@ -1,7 +1,8 @@
 /* Olsketina: memory layouts of a small NVDLA accelerator, for C (from C11 on) and C++ (from C++17 on), on x86-64 Linux.
  *
  * Link libolsketina.a (`rt staticlib olsketina`), and for the camera curve libolsketina_curve.a (`rt staticlib olsketina_curve`). Numbers and
- * refusals are those of the scope paper; the promise of each call stands above it in crates/olsketina/src/ and crates/olsketina_curve/src/.
+ * refusals are those of the scope paper and of the change requests that have landed (docs/changes); the promise of each call stands above it in
+ * crates/olsketina/src/ and crates/olsketina_curve/src/.
  *
  * Memory. A slice passes as two arguments, pointer then length (in elements). No pointer may be null, also where its length is 0, and each is
  * aligned to its type. What a call lends for writing must not overlap anything else that it lends. Nothing is kept after a call returns, and
@@ -18,8 +19,9 @@
 #include <stddef.h>
 #include <stdint.h>
 
-/* The header's version; olsketina_version() gives the archive's. It grows with every change of a call or of a word's meaning. */
-#define OLSKETINA_VERSION 3
+/* The header's version; olsketina_version() gives the archive's. It grows with every change of a call, of its answers or of a word's
+ * meaning. */
+#define OLSKETINA_VERSION 4
 
 /* A parameter that points to (at least) n elements; a result that must be looked at. */
 #ifdef __cplusplus
@@ -262,7 +264,7 @@ OLSKETINA_NODISCARD uint32_t olsketina_weights_extent(
 
 /* ---- pixel images */
 
-/* words of an image's setting */
+/* words of an image's setting; docs/REFUSALS.md, 20, has each format code with its channels and precision */
 #define OLSKETINA_IMAGE_FORMAT 0
 #define OLSKETINA_IMAGE_WIDTH 1
 #define OLSKETINA_IMAGE_HEIGHT 2

@@ -1,9 +1,9 @@
 """One-plane pixel formats: checks of a setting, and positions of pixels.
 
-Renders the scope paper's section "Pixels" without its conversion, and of
-"Refusal numbers" the codes 19, 1, 20, 21, 22, 23 in this order. Answers are as
-in cube.py. Code 1 is about width and height alone; a precision that is unknown
-is unlike the table's, so 20.
+Renders the scope paper's section "Pixels" without its conversion, with change
+request K2's row for T_R16_F, and of "Refusal numbers" the codes 19, 1, 20, 21,
+22, 23 in this order. Answers are as in cube.py. Code 1 is about width and
+height alone; a precision that is unknown is unlike the table's, so 20.
 """
 
 from collections import namedtuple
@@ -21,7 +21,7 @@ FORMATS = (
     PixelFormat("T_R12", 1, 2, INT16, 15),
     PixelFormat("T_R16", 1, 2, INT16, 15),
     PixelFormat("T_R16_I", 1, 2, INT16, 15),
-    PixelFormat("T_R16_F", 1, 2, INT16, 15),
+    PixelFormat("T_R16_F", 1, 2, FP16, 15),
     PixelFormat("T_A16B16G16R16", 4, 8, INT16, 3),
     PixelFormat("T_X16B16G16R16", 4, 8, INT16, 3),
     PixelFormat("T_A16B16G16R16_F", 4, 8, FP16, 3),

@@ -2,7 +2,7 @@
 
 Beside them stand inputs on which readings of "Cells and cubes", "Stalls",
 "Weights", "Pixels", "Two tables", "The sheet program", "Refusal numbers" and of
-change request K1 part.
+change requests K1 and K2 part.
 Prints nothing if all hold.
 """
 
@@ -275,6 +275,19 @@ def pixel_settings():
     assert pixels.position(far, 9, 5) == (0, 0, 6 * 4294967264 + 56)
 
 
+def float_formats():
+    """The formats of floats are fp16 and no other is; of T_R16_F the rest is as it was, so 20 comes before 21."""
+    assert [code for code, f in enumerate(pixels.FORMATS) if f.precision == 2] == [5, 8, 11]
+    p = pixels.PixelSetting(5, 17, 2, 1, 2, 15, 0, 64)
+    assert pixels.setting(p) == (0, 0, 0)
+    assert pixels.setting(p._replace(precision=1))[0] == pixels.setting(p._replace(precision=1, offset=16))[0] == 20
+    assert pixels.setting(p._replace(offset=16))[0] == 21
+    assert pixels.setting(p._replace(width=18))[0] == 22
+    assert pixels.position(p, 16, 1) == (0, 0, 64 + 31 * 2)
+    assert pixels.setting(p._replace(format=4, precision=1))[0] == 0
+    assert pixels.setting(p._replace(format=4))[0] == 20
+
+
 def starred_lookups():
     """The starred lookup cases; neither the slope nor the step between entries is rounded first."""
     assert x_value(X_LINEAR, TENS, 6) == 15
@@ -366,6 +379,7 @@ if __name__ == "__main__":
     lent_weights()
     starred_conversions()
     pixel_settings()
+    float_formats()
     starred_lookups()
     lookup_readings()
     lookup_runs()

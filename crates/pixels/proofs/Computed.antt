@@ -41,8 +41,13 @@ pub record Computed : Type 0 where
       ≡ 19 ∷ 1 ∷ 1 ∷ 20 ∷ 20 ∷ 21 ∷ 22 ∷ 22 ∷ 22 ∷ []
   -- two at once: 19 and 1, 1 and 20, 20 and 21, 21 and 22
   pub double : map answer (image 17 0 2 1 0 31 64 64 ∷ image 0 0 2 2 0 31 64 64 ∷ image 0 3 2 2 0 32 64 64 ∷ image 0 3 2 1 0 32 16 64 ∷ []) ≡ 19 ∷ 1 ∷ 20 ∷ 21 ∷ []
-  -- code 8 is fp16, code 5 int16
-  pub rows : map answer (image 8 4 2 4 1 0 0 32 ∷ image 5 4 2 1 1 0 0 32 ∷ image 5 4 2 1 2 0 0 32 ∷ []) ≡ 20 ∷ 0 ∷ 20 ∷ []
+  -- of the codes 0 to 16 the floats are fp16, 5, 8 and 11, and no other
+  pub precisions : map (λ (code : ℕ). formatOf code .precision) (0 ∷ 1 ∷ 2 ∷ 3 ∷ 4 ∷ 5 ∷ 6 ∷ 7 ∷ 8 ∷ 9 ∷ 10 ∷ 11 ∷ 12 ∷ 13 ∷ 14 ∷ 15 ∷ 16 ∷ [])
+      ≡ 0 ∷ 1 ∷ 1 ∷ 1 ∷ 1 ∷ 2 ∷ 1 ∷ 1 ∷ 2 ∷ 1 ∷ 1 ∷ 2 ∷ 0 ∷ 0 ∷ 0 ∷ 0 ∷ 0 ∷ []
+  -- code 8 with int16; code 5 with int16, with fp16; code 4 with int16, with fp16
+  pub rows : map answer (image 8 4 2 4 1 0 0 32 ∷ image 5 4 2 1 1 0 0 32 ∷ image 5 4 2 1 2 0 0 32 ∷ image 4 4 2 1 1 0 0 32 ∷ image 4 4 2 1 2 0 0 32 ∷ []) ≡ 20 ∷ 20 ∷ 0 ∷ 0 ∷ 20 ∷ []
+  -- code 5 else: 32 pixels of 2 bytes fill a line of 64, 33 do not; one channel; X offsets to 15; int16 is told before X offset 16
+  pub float : map answer (image 5 17 2 1 2 15 0 64 ∷ image 5 18 2 1 2 15 0 64 ∷ image 5 17 2 4 2 15 0 64 ∷ image 5 16 2 1 2 16 0 64 ∷ image 5 16 2 1 1 16 0 64 ∷ []) ≡ 0 ∷ 22 ∷ 20 ∷ 21 ∷ 20 ∷ []
   -- pixel (2, 1) of T_A8B8G8R8 with X offset 3: 64 + 96 + 5 · 4; the offset is counted in pixels
   pub position : positionQuantity (image 12 3 2 4 0 3 64 96) 2 1 ≡ Is 180
   -- a pixel outside, by its column and by its row; a position, two at once: 19 and 1, 1 and 20, 20 and 21, 21 and 22, 22 and 23
@@ -54,4 +59,4 @@ pub record Computed : Type 0 where
 pub computed : Computed
 unfolding requireAt inOrder result sizeValid formatTable formatIn formatOf kindValid stridesValid settingChecks settingAnswer pixelPosition positionQuantity
 computed =
-    record { accepted = refl; single = refl; double = refl; rows = refl; position = refl; column = refl; row = refl; strides = refl; position-double = refl }
+    record { accepted = refl; single = refl; double = refl; precisions = refl; rows = refl; float = refl; position = refl; column = refl; row = refl; strides = refl; position-double = refl }

@@ -1,5 +1,5 @@
--- The pixel formats, row by row as the scope paper's table prints them ("Pixels"). A pixel's components are numbered from the lowest address.
--- Assumes nothing.
+-- The pixel formats, row by row as the scope paper's table prints them ("Pixels"), code 5 as change request K2 has it. A pixel's components are
+-- numbered from the lowest address. Assumes nothing.
 use Prim.Native.Nat.{ℕ}
 use mathlib.Core.Bool.{cond, _&&_}
 use mathlib.Core.List.{List, [], _∷_}
@@ -21,8 +21,10 @@ unfoldable pub formatTable : List Row
 formatTable =
     -- T_R8
     row 0 0 1 1 0 31
-    -- T_R10, T_R12, T_R16, T_R16_I, T_R16_F
-    ∷ row 1 5 1 2 1 15
+    -- T_R10, T_R12, T_R16, T_R16_I
+    ∷ row 1 4 1 2 1 15
+    -- T_R16_F
+    ∷ row 5 5 1 2 2 15
     -- T_A16B16G16R16, T_X16B16G16R16
     ∷ row 6 7 4 8 1 3
     -- T_A16B16G16R16_F

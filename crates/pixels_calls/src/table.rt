@@ -45,7 +45,7 @@ const FORMATS: [PixelFormat; 17] = [
     PixelFormat {
         channels: 1,
         bytes: 2,
-        precision: 1,
+        precision: 2, // fp16: a floating-point image is converted to nothing else
         offsets: 15,
     },
     // T_A16B16G16R16

@@ -1,7 +1,7 @@
-//! The scope paper's worked cases and its sheet, through the library alone.
+//! The scope paper's worked cases, its sheet and the change requests' cases, through the library alone.
 
 use olsketina::{
-    camera, convert, header_text, Answer, Choice, Counters, Layout, Lookup, Mode, Refusal, Sheet, Slope, TableSettings, Weights,
+    camera, convert, header_text, Answer, Choice, Counters, Image, Layout, Lookup, Mode, Refusal, Sheet, Slope, TableSettings, Weights,
 };
 
 fn refused<T>(number: u32) -> Answer<T> {
@@ -80,6 +80,13 @@ fn lookups() {
     assert_eq!(answer(0, 0).1, [0, 0, 1, 0, 0]);
     assert_eq!(answer(3, 7).1, [0, 0, 1, 0, 0]);
     assert_eq!(answer(3, 8), (0, [1, 0, 0, 0, 0]));
+}
+
+/// The float camera, code 5, is fp16; T_R16_I, code 4, stays int16.
+#[test]
+fn images() {
+    let answer = |format, precision| Image::from([format, 4, 2, 1, precision, 0, 0, 32]).check();
+    assert_eq!([answer(5, 1), answer(5, 2), answer(4, 1), answer(4, 2)], [refused(20), Ok(()), Ok(()), refused(20)]);
 }
 
 #[test]

@@ -3,11 +3,12 @@
 use super::{refuse, require};
 use olsketina::{Answer, Image, Refusal};
 
-/// Channels, bytes a pixel, precision and greatest X offset of a format code (the scope paper's table, row by row).
+/// Channels, bytes a pixel, precision and greatest X offset of a format code (the scope paper's table, row by row, code 5 by change request K2).
 pub fn format(code: u32) -> Option<[u32; 4]> {
     match code {
         0 => Some([1, 1, 0, 31]),
-        1..=5 => Some([1, 2, 1, 15]),
+        1..=4 => Some([1, 2, 1, 15]),
+        5 => Some([1, 2, 2, 15]),
         6 | 7 => Some([4, 8, 1, 3]),
         8 => Some([4, 8, 2, 3]),
         9 | 10 => Some([4, 8, 1, 3]),
