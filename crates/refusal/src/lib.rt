@@ -30,6 +30,8 @@ pub enum Refusal {
     PixelOutside,
     ScriptLine,
     OwnerId,
+    ImageKind,
+    PixelLength,
 }
 
 // Accepted, or refused with the index at fault (the paper's "place").
@@ -74,6 +76,8 @@ pub fn code(r: Refusal) -> u32
         Refusal::PixelOutside => 23,
         Refusal::ScriptLine => 24,
         Refusal::OwnerId => 25,
+        Refusal::ImageKind => 29,
+        Refusal::PixelLength => 30,
     }
 }
 
