@@ -6,14 +6,12 @@ use mathlib.Core.Bool.{Bool, cond}
 use mathlib.Core.List.{List}
 use lib.ListN.{getD}
 use lib.IntN.{ℤ, pos}
-use Rattle.elements.specs.Lists.{tabulate}
 use Rattle.columns.specs.declared.ColumnBlock.{ColumnBlock}
 use Rattle.columns.specs.Blocks.{blockWritten, cleared}
 use Rattle.layout.specs.declared.CubeLayout.{CubeLayout}
 use Rattle.layout.specs.declared.ElementBox.{ElementBox}
 use Rattle.layout.specs.Geometry.{sizeOf, elementPosition}
-use Rattle.layout.specs.Boxes.{boxCount, channelAt, rowAt, columnAt}
-use Rattle.layout.specs.Contents.{packed, edited}
+use Rattle.layout.specs.Contents.{packed, edited, elementsBy}
 
 -- where channel n of row r begins in a list of elements whose channels lie `plane` apart and whose rows lie `line` apart
 unfoldable pub runFrom : (plane line n r : ℕ) → ℕ
@@ -53,7 +51,7 @@ rowWritten b clear xs buf = blockWritten b xs (cond clear (cleared (b .at) (32 *
 -- the elements of the box, in raw order over it, where they lie `plane` and `line` apart in a list
 unfoldable pub gathered : ElementBox → (plane line : ℕ) → List ℤ → List ℤ
 gathered box plane line xs =
-    tabulate (boxCount box) (λ (i : ℕ). getD xs (runFrom plane line (channelAt box i - box .channel) (rowAt box i - box .row) + (columnAt box i - box .column)) (pos 0))
+    elementsBy box (λ (c h w : ℕ). getD xs (runFrom plane line (c - box .channel) (h - box .row) + (w - box .column)) (pos 0))
 
 -- the box written, and, where `pad` says so, the padding of the whole cube cleared
 unfoldable pub boxWritten : CubeLayout → ElementBox → Bool → List ℤ → List ℕ → List ℕ

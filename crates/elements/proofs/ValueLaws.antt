@@ -1,5 +1,5 @@
 -- Laws of the check of values (specs/Values.antt). By induction on the list of elements. Assumes nothing.
---     valueValid-fits                          an element that is valid is a number of the precision's bytes
+--     valueValid-fits, fits-valueValid         an element that is valid is a number of the precision's bytes, and back
 --     valueValid-other, valueChecks-other      a precision other than int8 takes every element
 --     Valid                                    each of the first n elements is valid
 --     valueChecks-valid, valueChecks-least     what an accepted list, and a refused one, say of its elements
@@ -15,8 +15,8 @@ use native.Mathlib.Omega.{arith}
 use lib.IntN.{ℤ, pos, negsuc}
 use lib.ListN.{length, getD, replicate, length-replicate, getD-replicate}
 use lib.Signed.{mag}
-use borrow.Author.Tests.{leb-true, lt-ltb, le-ltb}
-use Rattle.general.proofs.TestLaws.{and-left}
+use borrow.Author.Tests.{leb-true, le-leb, lt-ltb, le-ltb}
+use Rattle.general.proofs.TestLaws.{and-left, and-both}
 use Rattle.refusal.specs.declared.Refusal.{Refusal}
 use Rattle.refusal.specs.declared.Refusal.the-variants.{Precision, Int8Range}
 use Rattle.refusal.specs.declared.Answer.{Answer}
@@ -37,6 +37,12 @@ pub valueValid-fits : (p : ℕ) (z : ℤ) → valueValid p z ≡ true → mag z 
 unfolding elementBytes
 valueValid-fits zero z e m = valid-mag z e
 valueValid-fits (suc p) z e m = m
+
+pub fits-valueValid : (p : ℕ) (z : ℤ) → mag z < 256 ^ elementBytes p / 2 → valueValid p z ≡ true
+unfolding elementBytes valueValid
+fits-valueValid zero (pos n) h = le-leb n 127 (omega (arith, h))
+fits-valueValid zero (negsuc n) h = and-both (le-leb n 127 (omega (arith, h))) refl
+fits-valueValid (suc p) z h = refl
 
 pub valueValid-other : (p : ℕ) (z : ℤ) → (p ≡ 0 → ⊥) → valueValid p z ≡ true
 unfolding valueValid

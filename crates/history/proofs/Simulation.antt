@@ -1,26 +1,19 @@
 -- Program and model start in step and stay so over every list of calls; packing the model's raw tensor is accepted at every moment, so that the buffer is
 -- what packing it would have left. By induction on the list. Assumes nothing.
---     valid-when-fits               an element that fits its bytes passes check 7
 --     still-packs, buffer-packed    the model's raw tensor packs, and the buffer is it packed
 --     same-list, agrees-run         every list of calls
 --     in-step                       the beginning
 --     agrees-at, packs-at, every-list   from the beginning on
-use Prim.Native.Nat.{ℕ, zero, suc, _/_, _^_, _<_}
-use native.Mathlib.Omega.{arith}
+use Prim.Native.Nat.{ℕ}
 use mathlib.Core.Path.{_≡_, refl, sym, ap, _∙_}
-use mathlib.Core.Bool.{true}
 use mathlib.Core.List.{List, [], _∷_, map}
 use lib.ListN.{length, getD}
-use lib.IntN.{ℤ, pos, negsuc}
-use lib.Signed.{mag}
-use borrow.Author.Tests.{le-leb}
-use Rattle.general.proofs.TestLaws.{and-both}
+use lib.IntN.{ℤ, pos}
 use Rattle.refusal.specs.declared.Answer.the-variants.{Accepted}
 use Rattle.refusal.specs.Checks.{inOrder}
 use Rattle.refusal.proofs.CheckLaws.{inOrder-front, inOrder-passed, leaves-done}
-use Rattle.elements.specs.Bytes.{elementBytes}
-use Rattle.elements.specs.Values.{valueValid, valueChecks}
-use Rattle.elements.proofs.ValueLaws.{valueChecks-all}
+use Rattle.elements.specs.Values.{valueChecks}
+use Rattle.elements.proofs.ValueLaws.{fits-valueValid, valueChecks-all}
 use Rattle.layout.specs.declared.CubeLayout.{CubeLayout}
 use Rattle.layout.specs.Geometry.{elementCount}
 use Rattle.layout.specs.Rules.{cubeChecks}
@@ -34,12 +27,6 @@ use Rattle.history.specs.Program.{Call, SixteenBit, LendsSixteenBit, Sta
 use Rattle.history.specs.Model.{Plain, plainStep, model, modelTo, shown, given}
 use Rattle.history.proofs.Agreement.{Agrees, same-reply, same-elements, agrees-after}
 
-valid-when-fits : (p : ℕ) (z : ℤ) → mag z < 256 ^ elementBytes p / 2 → valueValid p z ≡ true
-unfolding elementBytes valueValid
-valid-when-fits zero (pos n) h = le-leb n 127 (omega (arith, h))
-valid-when-fits zero (negsuc n) h = and-both (le-leb n 127 (omega (arith, h))) refl
-valid-when-fits (suc p) z h = refl
-
 module _ (q : CubeLayout) (before : List ℕ) where
   pub agrees-run : (s : State) (m : Plain) → Agrees q before s m → (calls : List Call) → LendsSixteenBit calls → Agrees q before (runTo s calls) (modelTo q (length before) m calls)
   unfolding runTo modelTo LendsSixteenBit
@@ -51,7 +38,7 @@ module _ (q : CubeLayout) (before : List ℕ) where
     unfolding packAnswer
     still-packs s m a =
         inOrder-passed (cubeChecks q (length (m .raw)) (length before)) (valueChecks (q .precision) (m .raw)) (ap (λ (n : ℕ). inOrder (cubeChecks q n (length before))) (a .count) ∙ room)
-        ∙ valueChecks-all (q .precision) (m .raw) (λ i h. valid-when-fits (q .precision) (getD (m .raw) i (pos 0)) (a .fits .fit i h))
+        ∙ valueChecks-all (q .precision) (m .raw) (λ i h. fits-valueValid (q .precision) (getD (m .raw) i (pos 0)) (a .fits .fit i h))
 
     buffer-packed : (s : State) (m : Plain) → Agrees q before s m → s .buffer ≡ packBuffer q (m .raw) before
     unfolding packBuffer

@@ -8,12 +8,12 @@ use lib.ListN.{length, getD, set}
 use lib.IntN.{ℤ, pos}
 use Rattle.refusal.specs.declared.Answer.{Answer}
 use Rattle.refusal.specs.Checks.{inOrder, leaves}
-use Rattle.elements.specs.Lists.{remade, tabulate}
+use Rattle.elements.specs.Lists.{remade}
 use Rattle.layout.specs.declared.CubeLayout.{CubeLayout}
 use Rattle.layout.specs.declared.ElementBox.{ElementBox}
 use Rattle.layout.specs.Geometry.{rawIndex}
-use Rattle.layout.specs.Boxes.{wholeBox, boxCount, boxHas, boxIndex, channelAt, rowAt, columnAt}
-use Rattle.layout.specs.Contents.{zerosOf}
+use Rattle.layout.specs.Boxes.{wholeBox, boxHas, boxIndex, channelAt, rowAt, columnAt}
+use Rattle.layout.specs.Contents.{zerosOf, elementsBy}
 use Rattle.layout.specs.Calls.{packBuffer}
 use Rattle.regions.specs.Slots.{Slot, empty, filled, emptySlots}
 use Rattle.regions.specs.Rules.{Access, access, regionBox, wholeRegion, placeChecks, readChecks, editChecks, releaseChecks}
@@ -32,7 +32,7 @@ boxWritten q box elements raw =
 
 -- the raw tensor's elements at a box, in raw order over the box
 unfoldable pub boxRead : CubeLayout → ElementBox → List ℤ → List ℤ
-boxRead q box raw = tabulate (boxCount box) (λ (i : ℕ). getD raw (rawIndex q (channelAt box i) (rowAt box i) (columnAt box i)) (pos 0))
+boxRead q box raw = elementsBy box (λ (c h w : ℕ). getD raw (rawIndex q c h w) (pos 0))
 
 -- what the model keeps
 pub record Plain : Type 0 where

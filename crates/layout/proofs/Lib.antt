@@ -6,6 +6,7 @@
 --     Views           a byte's owner by cases, each with the paper's formula
 --     BoxLaws         boxes, and the raw order over a box
 --     ContentLaws     each byte after packing and after writing a box
+--     JoinLaws        a box written part by part
 --     Extents         places inside the extent, aligned, within 64 bits
 --     WhoseLaws       a byte's owner as the call finds it
 --     CallLaws        the orders of checks: a call on the whole cube, and what an accepted call tells
@@ -20,6 +21,7 @@ pub mod Atoms
 pub mod Views
 pub mod BoxLaws
 pub mod ContentLaws
+pub mod JoinLaws
 pub mod Extents
 pub mod WhoseLaws
 pub mod CallLaws

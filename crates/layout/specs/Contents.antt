@@ -36,13 +36,17 @@ edited q box elements before = remade (λ (p old : ℕ). editedByte box elements
 abbrev pub zerosOf : ElementBox → List ℤ
 zerosOf box = replicate (boxCount box) (pos 0)
 
+-- the elements that a rule gives at each channel, row and column of a box, in raw order over the box
+abbrev pub elementsBy : ElementBox → (ℕ → ℕ → ℕ → ℤ) → List ℤ
+elementsBy box rule = tabulate (boxCount box) (λ (i : ℕ). rule (channelAt box i) (rowAt box i) (columnAt box i))
+
 -- the element (c, h, w) that a buffer holds
 unfoldable pub readElement : CubeLayout → List ℕ → ℕ → ℕ → ℕ → ℤ
 readElement q buffer c h w = elementAt (sizeOf q) buffer (elementPosition q c h w)
 
 -- the elements of a box that a buffer holds, in raw order over the box
 unfoldable pub boxElements : CubeLayout → ElementBox → List ℕ → List ℤ
-boxElements q box buffer = tabulate (boxCount box) (λ (i : ℕ). readElement q buffer (channelAt box i) (rowAt box i) (columnAt box i))
+boxElements q box buffer = elementsBy box (readElement q buffer)
 
 -- the raw tensor that a buffer holds
 unfoldable pub unpacked : CubeLayout → List ℕ → List ℤ

@@ -1,0 +1,7 @@
+-- Laws of the definitions of specs/, for the crates above.
+--     RuleLaws      the orders of checks
+--     ElementLaws   the elements that a picture becomes
+--     CallLaws      painting as an edit
+pub mod RuleLaws
+pub mod ElementLaws
+pub mod CallLaws

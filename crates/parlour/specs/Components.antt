@@ -6,9 +6,8 @@ use mathlib.Core.List.{List}
 use lib.Dec.{eqb}
 use lib.IntN.{ℤ, pos}
 use Rattle.elements.specs.Bytes.{wordAt, signed}
-use Rattle.elements.specs.Lists.{tabulate}
 use Rattle.layout.specs.declared.ElementBox.{ElementBox}
-use Rattle.layout.specs.Boxes.{boxCount, channelAt, rowAt, columnAt}
+use Rattle.layout.specs.Contents.{elementsBy}
 use Rattle.pixels.specs.declared.PixelSetting.{PixelSetting}
 use Rattle.pixels.specs.Formats.{formatOf}
 use Rattle.pixels.specs.Settings.{pixelPosition}
@@ -42,6 +41,4 @@ imageBox image = record { channel = 0; row = 0; column = 0; channels = image .ch
 
 -- its components converted, in raw order: component n of pixel (x, y) is the element of channel n, row y and column x
 unfoldable pub paintedElements : PixelSetting → List ℕ → Conversion → ℕ → List ℤ
-paintedElements image pixels k precision =
-    let b = imageBox image in
-    tabulate (boxCount b) (λ (i : ℕ). converted k precision (component image pixels (channelAt b i) (columnAt b i) (rowAt b i)))
+paintedElements image pixels k precision = elementsBy (imageBox image) (λ (n y x : ℕ). converted k precision (component image pixels n x y))

@@ -1,14 +1,16 @@
 -- A table of formats by one test of all its entries, and the bytes a pixel. By induction on the table, and on the paper's rows. Assumes nothing.
 --     tableRight, table-at     each entry is the format of its code, as one computed test; the rule at each code
---     bytes-le                 a pixel has at most 8 bytes
-use Prim.Native.Nat.{ℕ, zero, suc, _+_, _≤_, _<_, zero-le}
+--     every-format, bytes-le   what every format has; a pixel has at most 8 bytes
+--     format-none              a code past the table
+use Prim.Native.Nat.{ℕ, zero, suc, _+_, _≤_, _<_}
 use native.Mathlib.Nat.{not-suc-le-zero, le-of-suc-le-suc}
 use native.Mathlib.Omega.{arith}
-use mathlib.Core.Path.{_≡_, ap, _∙_}
+use mathlib.Core.Path.{_≡_, refl, ap, _∙_}
 use mathlib.Core.Bool.{Bool, true, false, cond, _&&_}
 use mathlib.Core.List.{List, [], _∷_}
 use lib.Dec.{T, leb, eqb, leb→le, eqb→eq}
 use lib.ListN.{length, getD}
+use borrow.Author.Tests.{lt-leb}
 use mir.Facts.{and-yes}
 use Rattle.pixels.specs.declared.PixelFormat.{PixelFormat}
 use Rattle.pixels.specs.Formats.{Row, noFormat, formatTable, formatIn, formatOf}
@@ -45,23 +47,49 @@ entry-at (f ∷ fs) i t (suc k) h =
 pub table-at : (fs : List PixelFormat) (k : ℕ) → T (tableRight 0 fs) → k < length fs → getD fs k noFormat ≡ formatOf k
 table-at fs k t h = entry-at fs 0 t k h ∙ ap formatOf (omega arith)
 
--- ---- bytes a pixel
+-- ---- what every format has
 
-abbrev narrowRows : List Row → Bool
-narrowRows [] = true
-narrowRows (r ∷ rows) = leb (r .format .bytes) 8 && narrowRows rows
+abbrev every : (PixelFormat → Bool) → List Row → Bool
+every test [] = test noFormat
+every test (r ∷ rows) = test (r .format) && every test rows
 
-row-or-rest : (t : Bool) (f g : PixelFormat) → f .bytes ≤ 8 → g .bytes ≤ 8 → cond t f g .bytes ≤ 8
-row-or-rest true f g h k = h
-row-or-rest false f g h k = k
+row-or-rest : (test : PixelFormat → Bool) (t : Bool) (f g : PixelFormat) → T (test f) → T (test g) → T (test (cond t f g))
+row-or-rest test true f g h k = h
+row-or-rest test false f g h k = k
 
-bytes-in : (rows : List Row) → T (narrowRows rows) → (code : ℕ) → formatIn rows code .bytes ≤ 8
+every-in : (test : PixelFormat → Bool) (rows : List Row) → T (every test rows) → (code : ℕ) → T (test (formatIn rows code))
 unfolding formatIn
-bytes-in [] t code = zero-le
-bytes-in (r ∷ rows) t code =
-    let n = and-yes (leb (r .format .bytes) 8) (narrowRows rows) t in
-    row-or-rest (leb (r .first) code && leb code (r .last)) (r .format) (formatIn rows code) (leb→le (r .format .bytes) 8 (n .0)) (bytes-in rows (n .1) code)
+every-in test [] t code = t
+every-in test (r ∷ rows) t code =
+    let n = and-yes (test (r .format)) (every test rows) t in
+    row-or-rest test (leb (r .first) code && leb code (r .last)) (r .format) (formatIn rows code) (n .0) (every-in test rows (n .1) code)
+
+-- a test that each row and a code past the table pass
+pub every-format : (test : PixelFormat → Bool) → T (every test formatTable) → (code : ℕ) → T (test (formatOf code))
+unfolding formatOf
+every-format test t code = every-in test formatTable t code
 
 pub bytes-le : (code : ℕ) → formatOf code .bytes ≤ 8
+unfolding formatTable
+bytes-le code = leb→le _ 8 (every-format (λ (f : PixelFormat). leb (f .bytes) 8) tt code)
+
+-- ---- a code past the table
+
+abbrev endsBy : ℕ → List Row → Bool
+endsBy n [] = true
+endsBy n (r ∷ rows) = leb (r .last) n && endsBy n rows
+
+skip : (x y : Bool) (f g : PixelFormat) → y ≡ false → g ≡ cond (x && y) f g
+skip true y f g e = rw e
+skip false y f g e = refl
+
+none-in : (rows : List Row) (n : ℕ) → T (endsBy n rows) → (code : ℕ) → n < code → noFormat ≡ formatIn rows code
+unfolding formatIn
+none-in [] n t code h = refl
+none-in (r ∷ rows) n t code h =
+    let e = and-yes (leb (r .last) n) (endsBy n rows) t in
+    none-in rows n (e .1) code h ∙ skip (leb (r .first) code) (leb code (r .last)) (r .format) (formatIn rows code) (lt-leb code (r .last) (omega (arith, leb→le (r .last) n (e .0), h)))
+
+pub format-none : (code : ℕ) → 16 < code → noFormat ≡ formatOf code
 unfolding formatOf formatTable
-bytes-le code = bytes-in formatTable tt code
+format-none code h = none-in formatTable 16 tt code h

@@ -5,12 +5,28 @@ mod table;
 ghost use mathlib.Core.Path.{_≡_};
 ghost use Prim.Native.Nat.{_<_};
 ghost use Rattle.refusal.specs.declared.Answer.the-variants.{Accepted};
+ghost use Rattle.pixels.specs.Formats.{formatOf};
 ghost use Rattle.pixels.specs.Settings.{settingAnswer, pixelPosition, positionQuantity};
 use pixels::PixelFormat;
 use pixels::PixelSetting;
 use refusal::Answer;
 use refusal::Quantity;
 use refusal::Refusal;
+
+// The format of a code; a code past the last has none, and each of its numbers is 0.
+pub fn format(code: u32) -> PixelFormat
+    ensures { λ r. ⌜ r ≡ formatOf code ⌝ }
+{
+    if 16 < code {
+        return PixelFormat {
+            channels: 0,
+            bytes: 0,
+            precision: 0,
+            offsets: 0,
+        };
+    }
+    table::format_of(code)
+}
 
 // Checks 19, 1, 20, 21, 22.
 pub fn setting(image: PixelSetting) -> Answer

@@ -1,12 +1,14 @@
 -- The limits of a precision, the range of a converted value, and the checks as the code goes through them. Assumes nothing.
 --     lowest-zero .. highest-other          the limits, by the precision
 --     saturated-value, quantized-fits       the converted value from the scaled one; it fits 16 bits
---     answer-precision .. answer-value      the checks, one after another
+--     answer-refused, answer-value          the answer, by the checks
+--     check-precision .. check-valid        the checks, one after another
+--     checked                               what accepted checks tell
 use Prim.Native.Nat.{ℕ, zero, suc, _^_, _≤_, _<_}
 use mathlib.Core.Path.{_≡_, sym, refl, _∙_}
 use lib.IntN.{ℤ, pos, negsuc, _-ℤ_, _*ℤ_}
 use lib.Signed.{shrZ}
-use borrow.Author.Tests.{lt-ltb, le-ltb, le-leb, lt-leb}
+use borrow.Author.Tests.{lt-ltb, le-ltb, le-leb, lt-leb, ltb-true, leb-true}
 use mir.Syntax.{w16}
 use mir.Val.{SFits}
 use mir.Facts.{sfits-lit}
@@ -14,7 +16,7 @@ use Rattle.refusal.specs.declared.Answer.the-variants.{Accepted, Refused}
 use Rattle.refusal.specs.declared.Refusal.{Refusal}
 use Rattle.refusal.specs.declared.Refusal.the-variants.{Precision, Shift}
 use Rattle.refusal.specs.Checks.{inOrder}
-use Rattle.refusal.proofs.CheckLaws.{inOrder-nil, inOrder-next, inOrder-stop, result-given, result-refused}
+use Rattle.refusal.proofs.CheckLaws.{Held, inOrder-all, requireAt-held, inOrder-nil, inOrder-next, inOrder-stop, result-given, result-refused}
 use Rattle.integers.specs.Saturate.{saturate}
 use Rattle.integers.proofs.SaturateLaws.{fits-saturate}
 use Rattle.quantize.specs.declared.Quantized.the-variants.{Value, Refused as NotGiven}
@@ -63,23 +65,31 @@ module _ (d offset scale : ℤ) (shift precision : ℕ) where
   unfolding quantized
   quantized-fits = fits-saturate (shrZ ((d -ℤ offset) *ℤ scale) (2 ^ shift)) (lowest-fits precision) (highest-fits precision)
 
-  refused : {r : Refusal} → inOrder (quantizeChecks precision shift) ≡ Refused r 0 → NotGiven r 0 ≡ quantizeAnswer d offset scale shift precision
+  pub answer-refused : {r : Refusal} {i : ℕ} → inOrder (quantizeChecks precision shift) ≡ Refused r i → NotGiven r i ≡ quantizeAnswer d offset scale shift precision
   unfolding quantizeAnswer
-  refused e = sym (result-refused _ _ _ e)
+  answer-refused e = sym (result-refused _ _ _ e)
 
-  accepted : inOrder (quantizeChecks precision shift) ≡ Accepted → Value (quantized d offset scale shift precision) ≡ quantizeAnswer d offset scale shift precision
+  pub answer-value : inOrder (quantizeChecks precision shift) ≡ Accepted → Value (quantized d offset scale shift precision) ≡ quantizeAnswer d offset scale shift precision
   unfolding quantizeAnswer
-  accepted e = sym (result-given _ _ _ e)
+  answer-value e = sym (result-given _ _ _ e)
 
-  pub answer-precision : 2 ≤ precision → NotGiven Precision 0 ≡ quantizeAnswer d offset scale shift precision
+-- ---- the checks, one after another
+
+module _ (precision shift : ℕ) where
+  pub check-precision : 2 ≤ precision → Refused Precision 0 ≡ inOrder (quantizeChecks precision shift)
   unfolding quantizeChecks
-  answer-precision h = refused (inOrder-stop 0 Precision _ (le-ltb precision 2 h))
+  check-precision h = sym (inOrder-stop 0 Precision _ (le-ltb precision 2 h))
 
-  module _ (known : precision < 2) where
-    pub answer-shift : 31 < shift → NotGiven Shift 0 ≡ quantizeAnswer d offset scale shift precision
-    unfolding quantizeChecks
-    answer-shift h = refused (inOrder-next 0 Precision _ (lt-ltb precision 2 known) ∙ inOrder-stop 0 Shift _ (lt-leb shift 31 h))
+  pub check-shift : precision < 2 → 31 < shift → Refused Shift 0 ≡ inOrder (quantizeChecks precision shift)
+  unfolding quantizeChecks
+  check-shift known h = sym (inOrder-next 0 Precision _ (lt-ltb precision 2 known) ∙ inOrder-stop 0 Shift _ (lt-leb shift 31 h))
 
-    pub answer-value : shift ≤ 31 → Value (quantized d offset scale shift precision) ≡ quantizeAnswer d offset scale shift precision
-    unfolding quantizeChecks
-    answer-value h = accepted (inOrder-next 0 Precision _ (lt-ltb precision 2 known) ∙ inOrder-next 0 Shift _ (le-leb shift 31 h) ∙ inOrder-nil)
+  pub check-valid : precision < 2 → shift ≤ 31 → Accepted ≡ inOrder (quantizeChecks precision shift)
+  unfolding quantizeChecks
+  check-valid known h = sym (inOrder-next 0 Precision _ (lt-ltb precision 2 known) ∙ inOrder-next 0 Shift _ (le-leb shift 31 h) ∙ inOrder-nil)
+
+  -- what accepted ones tell
+  pub checked : inOrder (quantizeChecks precision shift) ≡ Accepted → (precision < 2) × (shift ≤ 31)
+  unfolding quantizeChecks Held
+  checked e = let held = inOrder-all _ e in
+      (ltb-true precision 2 (requireAt-held _ _ _ (held .0)), leb-true shift 31 (requireAt-held _ _ _ (held .1 .0)))

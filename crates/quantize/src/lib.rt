@@ -3,7 +3,9 @@ ghost use mathlib.Core.Path.{_≡_};
 ghost use Prim.Native.Nat.{_≤_, _^_};
 ghost use lib.IntN.{_-ℤ_, _*ℤ_};
 ghost use lib.Signed.{shrZ};
-ghost use Rattle.quantize.specs.Quantize.{lowest, highest, quantized, quantizeAnswer};
+ghost use Rattle.refusal.specs.Checks.{inOrder};
+ghost use Rattle.quantize.specs.Quantize.{lowest, highest, quantizeChecks, quantized, quantizeAnswer};
+use refusal::Answer;
 use refusal::Refusal;
 
 // The converted value, or refused with the index at fault.
@@ -43,15 +45,25 @@ fn value(d: i32, offset: i16, scale: i16, shift: u32, precision: u32) -> i16
     integers::saturate(y, lowest(precision), highest(precision)) as i16
 }
 
+// Checks 2, 16 of a conversion to a precision.
+pub fn check(shift: u32, precision: u32) -> Answer
+    ensures { λ r. ⌜ r ≡ inOrder (quantizeChecks precision shift) ⌝ }
+{
+    if 2 <= precision {
+        return Answer::Refused(Refusal::Precision, 0);
+    }
+    if 31 < shift {
+        return Answer::Refused(Refusal::Shift, 0);
+    }
+    Answer::Accepted
+}
+
 // (d - offset) * scale over 2^shift, rounded down, and saturated to the precision.
 pub fn convert(d: i32, offset: i16, scale: i16, shift: u32, precision: u32) -> Quantized
     ensures { λ r. ⌜ r ≡ quantizeAnswer d offset scale shift precision ⌝ }
 {
-    if 2 <= precision {
-        return Quantized::Refused(Refusal::Precision, 0);
+    match check(shift, precision) {
+        Answer::Refused(refusal, at) => Quantized::Refused(refusal, at),
+        Answer::Accepted => Quantized::Value(value(d, offset, scale, shift, precision)),
     }
-    if 31 < shift {
-        return Quantized::Refused(Refusal::Shift, 0);
-    }
-    Quantized::Value(value(d, offset, scale, shift, precision))
 }

@@ -3,7 +3,7 @@
 --     box-passes, after-9                     the checks of the cube's box pass, and the same follow
 --     read-accepted, edit-accepted            what an accepted read or edit tells
 --     release-as-edit .. release-writes       a release is an edit of the whole region with zeros
---     read-denied .. release-denied           what is accepted of the owner is refused by 25 of anybody else
+--     others-denied .. release-denied         what is accepted of the owner is refused by 25 of anybody else
 --     place-kept .. release-left              the table after a placing and a release, refused and accepted
 use Prim.Native.Nat.{ℕ}
 use mathlib.Core.Path.{_≡_, refl, sym, ap, _∙_}
@@ -108,7 +108,7 @@ module _ (a : Access) (id : ℕ) (other : a .id ≢ id) where
       and-no false = refl
 
 -- a call whose box was accepted of the owner is refused by 25 of anybody else, whatever follows
-others-denied : (a : Access) (b : ElementBox) (id : ℕ) → a .id ≢ id → inOrder (regionBoxChecks a b) ≡ Accepted → (b′ : ElementBox) (rest : List Answer)
+pub others-denied : (a : Access) (b : ElementBox) (id : ℕ) → a .id ≢ id → inOrder (regionBoxChecks a b) ≡ Accepted → (b′ : ElementBox) (rest : List Answer)
     → inOrder (regionBoxChecks (access (a .layout) (a .slots) (a .number) id) b′ ++ rest) ≡ Refused OwnerId 0
 unfolding regionBoxChecks
 others-denied a b id other ok b′ rest =

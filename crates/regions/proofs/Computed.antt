@@ -5,7 +5,7 @@ use mathlib.Core.Path.{_≡_, refl}
 use mathlib.Core.List.{List, [], _∷_, _++_, map}
 use lib.IntN.{ℤ, pos}
 use lib.ListN.{getD, replicate}
-use Rattle.refusal.specs.declared.Refusal.the-variants.{Int8Range}
+use Rattle.refusal.specs.declared.Refusal.the-variants.{Int8Range, OwnerId}
 use Rattle.refusal.specs.declared.Answer.the-variants.{Refused}
 use Rattle.refusal.specs.declared.Quantity.the-variants.{Is}
 use Rattle.refusal.specs.Codes.{answerCode, quantityAnswer}
@@ -21,12 +21,13 @@ use Rattle.layout.specs.Boxes.{oneElement, boxCount, spanInside, spanHas, boxHa
 use Rattle.layout.specs.Rules.{sizesValid, wholeAtoms, stridesValid, layoutChecks, storageChecks}
 use Rattle.layout.specs.Owners.{surfaceOf, rowOf, columnOf, byteInAtom, inAtom, atomOwner, owner}
 use Rattle.layout.specs.Contents.{editedByte, edited, readElement, boxElements}
+use Rattle.regions.specs.declared.FoundBox.the-variants.{At, Refused as NotFound}
 use Rattle.regions.specs.declared.Rectangle.{Rectangle}
 use Rattle.regions.specs.declared.Region.{Region}
 use Rattle.regions.specs.declared.RegionTable.{RegionTable}
 use Rattle.regions.specs.Slots.{rectangle, slotOf, slotsOf, rectangleHas, occupied, anyFrom, overlaps, rectangleInside}
 use Rattle.regions.specs.Rules.{slotAt, isFilled, rectangleOf, idOf, placeChecks, boxInRectangle, slotChecks, regionBoxChecks, readChecks, editChecks, releaseChecks}
-use Rattle.regions.specs.Calls.{noRegion, emptyTable, placedRegion, placeAnswer, placeTable, editAnswer, editBuffer, readAnswer, readElements, releaseAnswer, releaseTable, releaseBuffer, regionPosition, regionCount}
+use Rattle.regions.specs.Calls.{noRegion, emptyTable, placedRegion, placeAnswer, placeTable, editAnswer, editBuffer, readAnswer, readElements, releaseAnswer, releaseTable, releaseBuffer, regionPosition, regionCount, regionFound}
 
 abbrev frame : CubeLayout
 frame = layoutOf 3 2 40 0 128 256 0
@@ -119,6 +120,9 @@ pub record Computed : Type 0 where
   pub count : regionCount table 0 7 ≡ Is 160
   pub count-double : map (λ (t : RegionTable). counting t 0) wrong ≡ 1 ∷ 2 ∷ 3 ∷ 4 ∷ 8 ∷ []
   pub count-later : counting (by-hand 7) 8 ∷ counting (by-hand 7) 7 ∷ [] ≡ 25 ∷ 9 ∷ []
+  -- the box of the cube that a region is; of another owner it is 25
+  pub found : regionFound two 1 9 ≡ At (record { channel = 0; row = 0; column = 2; channels = 40; rows = 2; columns = 1 })
+  pub not-found : regionFound two 1 7 ≡ NotFound OwnerId 0
   -- an edit writes its element at the region's corner, and a read gives it; a read has no 7
   pub written : editBuffer small 0 3 (oneElement 0 0 0) (pos 5 ∷ []) (replicate 64 9) ≡ replicate 32 9 ++ 5 ∷ replicate 31 9
   pub read : readElements small 0 3 (oneElement 0 0 0) (replicate 32 9 ++ 5 ∷ replicate 31 9) (pos 200 ∷ []) ≡ pos 5 ∷ []
@@ -133,7 +137,7 @@ pub record Computed : Type 0 where
   pub next : placing two 2 8 (rectangle 1 0 1 1) ∷ placing (releaseTable two 0 7 480) 0 8 (rectangle 1 0 1 1) ∷ [] ≡ 10 ∷ 0 ∷ []
 
 pub computed : Computed
-unfolding requireAt inOrder leaves result sizeValid elementBytes byteOf wordAt signed elementAt remadeFrom remade tabulateFrom tabulate valueValid valueCheck valueChecksFrom valueChecks surfaces elementPosition cubeExtent boxCount spanInside spanHas boxHas boxIndex channelAt rowAt columnAt sizesValid wholeAtoms stridesValid layoutChecks storageChecks surfaceOf rowOf columnOf byteInAtom inAtom atomOwner owner editedByte edited readElement boxElements slotOf slotsOf rectangleHas occupied anyFrom overlaps rectangleInside slotAt isFilled rectangleOf idOf placeChecks boxInRectangle slotChecks regionBoxChecks readChecks editChecks releaseChecks placeAnswer placeTable editAnswer editBuffer readAnswer readElements releaseAnswer releaseTable releaseBuffer regionPosition regionCount
+unfolding requireAt inOrder leaves result sizeValid elementBytes byteOf wordAt signed elementAt remadeFrom remade tabulateFrom tabulate valueValid valueCheck valueChecksFrom valueChecks surfaces elementPosition cubeExtent boxCount spanInside spanHas boxHas boxIndex channelAt rowAt columnAt sizesValid wholeAtoms stridesValid layoutChecks storageChecks surfaceOf rowOf columnOf byteInAtom inAtom atomOwner owner editedByte edited readElement boxElements slotOf slotsOf rectangleHas occupied anyFrom overlaps rectangleInside slotAt isFilled rectangleOf idOf placeChecks boxInRectangle slotChecks regionBoxChecks readChecks editChecks releaseChecks placeAnswer placeTable editAnswer editBuffer readAnswer readElements releaseAnswer releaseTable releaseBuffer regionPosition regionCount regionFound
 computed =
     record {
       placings = refl;
@@ -160,6 +164,8 @@ computed =
       count = refl;
       count-double = refl;
       count-later = refl;
+      found = refl;
+      not-found = refl;
       written = refl;
       read = refl;
       refused = refl;

@@ -7,12 +7,14 @@ use lib.ListN.{length, set, replicate}
 use lib.IntN.{ℤ}
 use Rattle.refusal.specs.declared.Answer.{Answer}
 use Rattle.refusal.specs.declared.Quantity.{Quantity}
-use Rattle.refusal.specs.Checks.{inOrder, leaves, quantity}
+use Rattle.refusal.specs.Checks.{inOrder, leaves, result, quantity}
 use Rattle.layout.specs.declared.CubeLayout.{CubeLayout}
 use Rattle.layout.specs.declared.ElementBox.{ElementBox}
 use Rattle.layout.specs.Boxes.{oneElement, boxCount}
 use Rattle.layout.specs.Geometry.{elementPosition}
 use Rattle.layout.specs.Contents.{edited, zerosOf, boxElements}
+use Rattle.regions.specs.declared.FoundBox.{FoundBox}
+use Rattle.regions.specs.declared.FoundBox.the-variants.{At, Refused as NotFound}
 use Rattle.regions.specs.declared.Rectangle.{Rectangle}
 use Rattle.regions.specs.declared.Region.{Region}
 use Rattle.regions.specs.declared.RegionTable.{RegionTable}
@@ -81,3 +83,9 @@ unfoldable pub regionCount : RegionTable → ℕ → ℕ → Quantity
 regionCount t n id =
     let all = wholeRegion (accessOf t n id) in
     quantity (inOrder (regionBoxChecks (accessOf t n id) all)) (boxCount all)
+
+-- the box of the cube that the region in the slot is: 1 to 4, 8, 25, 9, as for a box of all of it
+unfoldable pub regionFound : RegionTable → ℕ → ℕ → FoundBox
+regionFound t n id =
+    let all = wholeRegion (accessOf t n id) in
+    result At NotFound (inOrder (regionBoxChecks (accessOf t n id) all)) (regionBox (accessOf t n id) all)

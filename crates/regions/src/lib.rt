@@ -1,6 +1,8 @@
 // Sixteen regions of interest in one cube, edited side by side: the types (scope paper, "Stalls"). The calls are in `regions_calls`.
 use layout::CubeLayout;
+use layout::ElementBox;
 use refusal::Answer;
+use refusal::Refusal;
 
 // A rectangle of a cube's positions: its first column and row, its columns and rows.
 pub struct Rectangle {
@@ -28,4 +30,10 @@ pub struct RegionTable {
 pub struct Outcome {
     pub answer: Answer,
     pub table: RegionTable,
+}
+
+// A box of the cube, or refused with the index at fault.
+pub enum FoundBox {
+    At(ElementBox),
+    Refused(Refusal, usize),
 }

@@ -44,7 +44,7 @@ use Rattle.regions.specs.Rules.{Access, slotAt, isFilled, rectangleOf, idOf, re
 use Rattle.regions.specs.Calls.{noRegion, editAnswer, editBuffer, readAnswer, readElements, releaseAnswer, releaseTable, releaseBuffer, regionPosition, regionCount}
 use Rattle.regions.proofs.RuleLaws.{ValidBounds, box-accepted}
 use Rattle.regions.proofs.CallLaws.{box-passes, after-9}
-use Rattle.regions_calls.specs.declared.rules.FoundBox.the-variants.{At, Refused as NotFound}
+use Rattle.regions.specs.declared.FoundBox.the-variants.{At, Refused as NotFound}
 use Rattle.regions_calls.specs.declared.rules.Part.{Part}
 use Rattle.regions_calls.specs.Steps.{boxIn, foundBox, partBox, foundPart}
 

@@ -7,8 +7,8 @@ use Rattle.refusal.specs.Checks.{inOrder, result}
 use Rattle.layout.specs.declared.CubeLayout.{CubeLayout}
 use Rattle.layout.specs.declared.ElementBox.{ElementBox}
 use Rattle.regions.specs.declared.Rectangle.{Rectangle}
-use Rattle.regions_calls.specs.declared.rules.FoundBox.{FoundBox}
-use Rattle.regions_calls.specs.declared.rules.FoundBox.the-variants.{At, Refused}
+use Rattle.regions.specs.declared.FoundBox.{FoundBox}
+use Rattle.regions.specs.declared.FoundBox.the-variants.{At, Refused}
 use Rattle.regions_calls.specs.declared.rules.Part.{Part}
 use Rattle.regions_calls.specs.declared.rules.Part.the-variants.{Within, Whole}
 use Rattle.regions.specs.Slots.{Slot, empty, filled}

@@ -6,16 +6,16 @@ mod rules;
 ghost use mathlib.Core.Path.{_≡_};
 ghost use Prim.Native.Nat.{_<_};
 ghost use lib.ListN.{length};
-ghost use Rattle.regions.specs.Calls.{noRegion, emptyTable, withSlot, placeAnswer, placeTable, editAnswer, editBuffer, readAnswer, readElements, releaseAnswer, releaseTable, releaseBuffer, regionPosition, regionCount};
+ghost use Rattle.regions.specs.Calls.{noRegion, emptyTable, withSlot, placeAnswer, placeTable, editAnswer, editBuffer, readAnswer, readElements, releaseAnswer, releaseTable, releaseBuffer, regionPosition, regionCount, regionFound};
 use layout::CubeLayout;
 use layout::ElementBox;
 use refusal::Answer;
 use refusal::Quantity;
+use regions::FoundBox;
 use regions::Outcome;
 use regions::Rectangle;
 use regions::Region;
 use regions::RegionTable;
-use rules::FoundBox;
 use rules::Part;
 
 // The slot of an empty table: no region is placed in it.
@@ -206,4 +206,11 @@ pub fn count(table: RegionTable, slot: u32, id: u32) -> Quantity
             Quantity::Is(elements)
         }
     }
+}
+
+// The box of the cube that the region in a slot is. Checks 1 to 4, 8, 25, 9.
+pub fn find(table: RegionTable, slot: u32, id: u32) -> FoundBox
+    ensures { λ r. ⌜ r ≡ regionFound table slot id ⌝ }
+{
+    rules::find_box(table, slot, id, Part::Whole)
 }

@@ -15,6 +15,7 @@ use layout::CubeLayout;
 use layout::ElementBox;
 use refusal::Answer;
 use refusal::Refusal;
+use regions::FoundBox;
 use regions::Rectangle;
 use regions::Region;
 use regions::RegionTable;
@@ -23,12 +24,6 @@ use regions::RegionTable;
 pub(crate) enum Part {
     Within(ElementBox),
     Whole,
-}
-
-// A box of the cube, or refused with the index at fault.
-pub(crate) enum FoundBox {
-    At(ElementBox),
-    Refused(Refusal, usize),
 }
 
 // What a slot holds.

@@ -1,34 +1,47 @@
--- `quantize::convert` meets its contract: it makes the definition's checks in their order. Assumes nothing.
-use mathlib.Core.Path.{_≡_, ap, _∙_}
+-- `quantize::convert` meets its contract: it checks, and gives the value of an accepted conversion. Assumes nothing.
+use mathlib.Core.Path.{_≡_, sym, ap, _∙_}
 use borrow.Author.Needs.{needs, sfits-of}
 use mir.Facts.{toZ-ofZ}
+use Rattle.refusal.specs.declared.Answer.the-variants.{Accepted}
+use Rattle.refusal.specs.Checks.{inOrder}
 use Rattle.quantize.specs.declared.Quantized.the-variants.{Value}
-use Rattle.quantize.specs.Quantize.{quantized}
-use Rattle.quantize.proofs.AnswerLaws.{answer-precision, answer-shift, answer-value}
+use Rattle.quantize.specs.Quantize.{quantizeChecks, quantized}
+use Rattle.quantize.proofs.AnswerLaws.{answer-refused, answer-value, checked}
 use Rattle.quantize.proofs.convert.Statement.{statement}
 use Rattle.quantize.proofs.convert.Tie as tie
 
-returns : tie.Need-returns
-returns c = let a = c .before .args in answer-precision (a .d) (a .offset) (a .scale) (a .shift) (a .precision) (c .if1 .taken)
+held : (c : tie.After-enum-told) → inOrder (quantizeChecks (c .before .before .before .args .precision) (c .before .before .before .args .shift)) ≡ Accepted
+held c = sym (c .before .before .check .ensures) ∙ c .enum-told .given .1
 
-returns-2 : tie.Need-returns-2
-returns-2 c = let a = c .before .before .args in
-    answer-shift (a .d) (a .offset) (a .scale) (a .shift) (a .precision) (c .before .if1 .left) (c .if2 .taken)
+check-requires : tie.Need-check-requires
+check-requires c κs = search needs
+
+enum-known-refusal : tie.Need-enum-known-refusal
+enum-known-refusal c = search needs
+
+enum-told : tie.Need-enum-told
+enum-told c = search needs
 
 value-requires : tie.Need-value-requires
-value-requires c κs = search needs
+value-requires c κs = let a = c .before .before .before .args in checked (a .precision) (a .shift) (held c) .1
 
 -- what `value` was handed is read back
-value-is : (c : tie.After-value) → c .value .result ≡ quantized (c .before .before .before .args .d) (c .before .before .before .args .offset)
-    (c .before .before .before .args .scale) (c .before .before .before .args .shift) (c .before .before .before .args .precision)
-value-is c = let f = c .before .before .before .fits in
+value-is : (c : tie.After-value) → let a = c .before .before .before .before .args in
+    c .value .result ≡ quantized (a .d) (a .offset) (a .scale) (a .shift) (a .precision)
+value-is c = let f = c .before .before .before .before .fits in
     simp (toZ-ofZ (f .d), toZ-ofZ (f .offset), toZ-ofZ (f .scale)) at (c .value .ensures)
 
-returns-3 : tie.Need-returns-3
-returns-3 c = let d = c .before in
-    let a = d .before .before .args in
+returns : tie.Need-returns
+returns c = let d = c .before .before .before in
+    let a = d .before .args in
+    answer-refused (a .d) (a .offset) (a .scale) (a .shift) (a .precision) (sym (d .check .ensures) ∙ c .before .refusal .given .1)
+
+returns-2 : tie.Need-returns-2
+returns-2 c = let a = c .before .before .before .before .args in
     ap Value (toZ-ofZ (sfits-of (c .value .ok)) ∙ value-is c)
-    ∙ answer-value (a .d) (a .offset) (a .scale) (a .shift) (a .precision) (d .before .if1 .left) (d .if2 .left)
+    ∙ answer-value (a .d) (a .offset) (a .scale) (a .shift) (a .precision) (held (c .before))
 
 pub convert-spec : {M : Type 1} → statement M
-convert-spec = tie.close (tie.spec returns returns-2 value-requires returns-3)
+convert-spec =
+    tie.close
+    (tie.spec check-requires enum-known-refusal enum-told value-requires returns returns-2)

@@ -6,7 +6,7 @@ use Rattle.regions.specs.declared.Region.{Region}
 use Rattle.regions.specs.Rules.{Access, accessOf, wholeRegion}
 use Rattle.regions.specs.Calls.{withSlot, releaseAnswer, releaseBuffer}
 use Rattle.regions.proofs.CallLaws.{release-kept, release-left}
-use Rattle.regions_calls.specs.declared.rules.FoundBox.the-variants.{At}
+use Rattle.regions.specs.declared.FoundBox.the-variants.{At}
 use Rattle.regions_calls.specs.Steps.{foundBox}
 use Rattle.regions_calls.proofs.StepLaws.{release-refused, release-found, found-number}
 use borrow.Author.Needs.{needs}

@@ -12,7 +12,8 @@ use Rattle.layout.specs.Calls.{clearBoxAnswer}
 use Rattle.layout.proofs.ContentLaws.{edited-length}
 use Rattle.layout.proofs.CallLaws.{Admitted, clear-admitted}
 use Rattle.cube.specs.Steps.{runFrom}
-use Rattle.cube.proofs.StripLaws.{strip, strip-accepted, strip-none, strip-next, strip-all}
+use Rattle.layout.proofs.JoinLaws.{strip, strip-all}
+use Rattle.cube.proofs.StripLaws.{strip-accepted, strip-none, strip-next}
 use Rattle.cube.proofs.write.zeros.Statement.{statement}
 use Rattle.cube.proofs.write.zeros.Tie as tie
 
