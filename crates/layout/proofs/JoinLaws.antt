@@ -1,5 +1,5 @@
 -- A box written part by part: two parts that together are a third, with the elements that one rule gives in each. Byte by byte, by its owner. Assumes nothing.
---     Gives, by-gives              a list that has the elements of a rule, in raw order over a box
+--     Gives, by-gives, gives-list  a list that has the elements of a rule, in raw order over a box
 --     strip, band, Joins           columns and rows of a box; two parts that together are a third
 --     columns-join, rows-join      columns behind columns, and rows behind rows
 --     strip-valid .. band-all      a part of a valid box; no columns or rows, and all of them
@@ -11,17 +11,17 @@ use mathlib.Core.Path.{_≡_, refl, sym, ap, subst, subst⁻¹, _∙_}
 use mathlib.Core.Bool.{Bool, true, false, cond}
 use mathlib.Core.Logic.{_⊎_, inl, inr, ⊎-elim}
 use mathlib.Core.List.{List}
-use lib.ListN.{getD}
+use lib.ListN.{length, getD}
 use lib.Seq.{ext-getD}
 use lib.IntN.{ℤ, pos}
 use Rattle.elements.specs.Bytes.{byteOf}
-use Rattle.elements.proofs.TabulateLaws.{getD-tabulate}
+use Rattle.elements.proofs.TabulateLaws.{length-tabulate, getD-tabulate}
 use Rattle.layout.specs.declared.CubeLayout.{CubeLayout}
 use Rattle.layout.specs.declared.ElementBox.{ElementBox}
 use Rattle.layout.specs.Boxes.{boxHas, boxIndex, boxCount, channelAt, rowAt, columnAt}
 use Rattle.layout.specs.Owners.{Owner, element, padding, outside, owner}
 use Rattle.layout.specs.Contents.{editedByte, edited, elementsBy}
-use Rattle.layout.proofs.BoxLaws.{InBox, BoxValid, boxHas-in, in-boxHas, boxIndex-lt, index-channel, index-row, index-column}
+use Rattle.layout.proofs.BoxLaws.{InBox, BoxValid, boxHas-in, in-boxHas, boxIndex-lt, index-channel, index-row, index-column, at-in, boxIndex-at}
 use Rattle.layout.proofs.ContentLaws.{edited-length, edited-at}
 
 -- ---- the elements of a rule
@@ -37,6 +37,16 @@ by-gives rule box c h w i =
     ∙ ap (λ (x : ℕ). rule x (rowAt box j) (columnAt box j)) (index-channel box c h w i)
     ∙ ap (λ (x : ℕ). rule c x (columnAt box j)) (index-row box c h w i)
     ∙ ap (λ (x : ℕ). rule c h x) (index-column box c h w i)
+
+-- and such a list is that one
+pub gives-list : (rule : ℕ → ℕ → ℕ → ℤ) (box : ElementBox) (xs : List ℤ) → 0 < box .rows → 0 < box .columns → length xs ≡ boxCount box → Gives rule box xs → xs ≡ elementsBy box rule
+gives-list rule box xs rows columns count gives =
+    ext-getD (pos 0) xs (elementsBy box rule) (count ∙ sym (length-tabulate _ (boxCount box)))
+    (λ j h.
+    let hj = subst (λ (n : ℕ). j < n) count h in
+    ap (λ (n : ℕ). getD xs n (pos 0)) (sym (boxIndex-at box j hj rows columns))
+    ∙ gives (channelAt box j) (rowAt box j) (columnAt box j) (at-in box j hj rows columns)
+    ∙ sym (getD-tabulate (λ (n : ℕ). rule (channelAt box n) (rowAt box n) (columnAt box n)) (boxCount box) j (pos 0) hj))
 
 -- ---- parts of a box
 

@@ -2,7 +2,7 @@
 --     ValidPicture, picture-accepted      what accepted checks of the picture tell
 --     ValidTarget, target-accepted        what accepted checks of the region tell
 --     picture-setting .. picture-valid    the picture's checks, one after another
---     target-region .. target-valid       the region's
+--     target-region .. target-room        the region's
 use Prim.Native.Nat.{ℕ, _+_, _≤_, _<_}
 use mathlib.Core.Path.{_≡_, sym, _∙_}
 use mathlib.Core.Bool.{true, false, not}
@@ -17,6 +17,7 @@ use Rattle.refusal.specs.Checks.{inOrder}
 use Rattle.refusal.proofs.CheckLaws.{inOrder-nil, inOrder-next, inOrder-stop, inOrder-held, inOrder-rest, inOrder-front, inOrder-back, inOrder-passed, inOrder-refused}
 use Rattle.layout.specs.declared.CubeLayout.{CubeLayout}
 use Rattle.layout.specs.Geometry.{cubeExtent}
+use Rattle.layout.specs.Rules.{roomChecks}
 use Rattle.pixels.specs.declared.PixelSetting.{PixelSetting}
 use Rattle.pixels.specs.Formats.{formatOf}
 use Rattle.pixels.specs.Settings.{settingChecks, settingAnswer}
@@ -116,20 +117,7 @@ module _ (a : Access) (image : PixelSetting) (len : ℕ) where
     unfolding targetChecks
     target-unlike e = sym (inOrder-passed (regionBoxChecks a (wholeRegion a)) _ ok ∙ inOrder-stop 0 Bounds _ e)
 
-    module _ (fills : fillsRectangle image (rectangleNamed a) ≡ true) where
-      pub target-short : len < a .layout .start + cubeExtent (a .layout) → Refused BufferLength 0 ≡ inOrder (targetChecks a image len)
-      unfolding targetChecks
-      target-short h =
-          sym
-          (inOrder-passed (regionBoxChecks a (wholeRegion a)) _ ok
-          ∙ inOrder-next 0 Bounds _ fills
-          ∙ inOrder-stop 0 BufferLength [] (lt-leb (a .layout .start + cubeExtent (a .layout)) len h))
-
-      pub target-valid : a .layout .start + cubeExtent (a .layout) ≤ len → Accepted ≡ inOrder (targetChecks a image len)
-      unfolding targetChecks
-      target-valid h =
-          sym
-          (inOrder-passed (regionBoxChecks a (wholeRegion a)) _ ok
-          ∙ inOrder-next 0 Bounds _ fills
-          ∙ inOrder-next 0 BufferLength [] (le-leb (a .layout .start + cubeExtent (a .layout)) len h)
-          ∙ inOrder-nil)
+    -- past 9 what is left is 5
+    pub target-room : fillsRectangle image (rectangleNamed a) ≡ true → inOrder (targetChecks a image len) ≡ inOrder (roomChecks (a .layout) len)
+    unfolding targetChecks
+    target-room fills = inOrder-passed (regionBoxChecks a (wholeRegion a)) _ ok ∙ inOrder-next 0 Bounds _ fills

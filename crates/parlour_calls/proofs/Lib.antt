@@ -1,0 +1,13 @@
+-- The laws behind this crate's functions.
+--     ComponentLaws   a component, as the code reads it from its bytes
+--     TileLaws        the tile of a strip
+--     StripLaws       strips and rows of a picture
+--     TargetLaws      the box that is painted, as the code finds it
+--     PaintLaws       painting as the code does it
+--     AnswerLaws      calls that cannot be refused here
+pub mod ComponentLaws
+pub mod TileLaws
+pub mod StripLaws
+pub mod TargetLaws
+pub mod PaintLaws
+pub mod AnswerLaws

@@ -1,0 +1,92 @@
+-- `parlour_calls::strips::paint_row` meets its contract. The loop's invariant: the first x columns of the row are painted. Assumes nothing.
+use Prim.Native.Nat.{ℕ, _+_, _-_, _≤_}
+use native.Mathlib.Omega.{arith}
+use mathlib.Core.Path.{_≡_, ap, subst⁻¹, _∙_}
+use mathlib.Core.Logic.{⊎-elim}
+use lib.ListN.{length}
+use Rattle.parlour_calls.specs.Steps.{Paintable, stripOf, partPainted}
+use Rattle.parlour_calls.proofs.StripLaws.{ready, painted-length, row-none, row-more, row-all}
+use Rattle.parlour_calls.proofs.strips.paint_row.Statement.{statement}
+use Rattle.parlour_calls.proofs.strips.paint_row.Tie as tie
+
+abbrev Inv-loop : tie.InvT-loop
+Inv-loop layout b image y pixels k buffer₀ width x₀ buffer x = (x ≤ image .width) × (buffer ≡ partPainted layout b (stripOf b 0 y x) image pixels k buffer₀)
+
+abbrev μ-loop : tie.MeasureT-loop
+μ-loop layout b image y pixels k buffer₀ width x₀ buffer x = image .width - x
+
+-- the buffer is as long as before
+long : (l : tie.At-loop Inv-loop μ-loop) → length (l .loop .buffer) ≡ length (l .before .before .before .args .buffer .now)
+long l = let a = l .before .before .before .args in
+    ap length (l .loop .inv .1) ∙ painted-length (a .layout) (a .b) (stripOf (a .b) 0 (a .y) (l .loop .x)) (a .image) (a .pixels .now) (a .k) (a .buffer .now)
+
+-- the next columns: some, at most 256, not more than are left
+record Count (width x count : ℕ) : Type 0 where
+  some : 1 ≤ count
+  narrow : count ≤ 256
+  fit : x + count ≤ width
+
+next : (j : tie.Joined1 Inv-loop μ-loop) → let l = j .before .before in Count (l .before .before .before .args .image .width) (l .loop .x) (j .if1 .count)
+next j =
+    let taken = j .before .loop-test .taken in
+    ⊎-elim
+    (λ w. record { some = omega (arith, w .1, taken); narrow = omega (arith, w .1, w .0 .taken); fit = omega (arith, w .1, taken) })
+    (λ w. record { some = omega (arith, w .1); narrow = omega (arith, w .1); fit = omega (arith, w .1, w .0 .left, taken) })
+    (j .if1 .came)
+
+loop-holds : tie.Need-loop-holds Inv-loop μ-loop
+loop-holds c = let a = c .before .before .args in (omega arith, row-none (a .layout) (a .b) (a .image) (a .pixels .now) (a .k) (a .buffer .now) (a .y))
+
+sub-left : tie.Need-sub-left Inv-loop μ-loop
+sub-left c = c .before .loop .inv .0
+
+paint-strip-requires : tie.Need-paint-strip-requires Inv-loop μ-loop
+paint-strip-requires c κs = let j = c .before in
+    let l = j .before .before in
+    let s = l .before .before .before in
+    let a = s .args in
+    let n = next j in
+    (subst⁻¹ (λ (m : ℕ). Paintable (a .layout) (a .b) (a .image) (a .k .shift) (length (a .pixels .now)) m) (long l) (s .pre .0), (s .pre .1, n .some, n .narrow, n .fit))
+
+add-x : tie.Need-add-x Inv-loop μ-loop
+add-x c = let j = c .before .before .before .before .before in
+    let s = j .before .before .before .before .before in
+    omega (arith, next j .fit, ready _ _ _ _ _ _ (s .pre .0) .setting .width-le)
+
+loop-less : tie.Need-loop-less Inv-loop μ-loop
+loop-less c = let n = next (c .before .before .before .before .before) in
+    omega (arith, n .some, n .fit)
+
+loop-again : tie.Need-loop-again Inv-loop μ-loop
+loop-again c = let p = c .before .before .before in
+    let j = p .before .before in
+    let l = j .before .before in
+    let a = l .before .before .before .args in
+    (next j .fit, row-more (a .layout) (a .b) (a .image) (a .pixels .now) (a .k) (a .buffer .now) (l .loop .x) (a .y) (j .if1 .count) (l .loop .inv .1) (p .paint-strip .ensures))
+
+same-length : tie.Need-same-length Inv-loop μ-loop
+same-length c = long (c .before)
+
+returns : tie.Need-returns Inv-loop μ-loop
+returns c = let l = c .before in
+    let s = l .before .before .before in
+    let a = s .args in
+    let all : l .loop .x ≡ a .b .columns = omega (arith, l .loop .inv .0, c .loop-test .left, s .pre .0 .columns) in
+    l .loop .inv .1
+    ∙ ap (λ (n : ℕ). partPainted (a .layout) (a .b) (stripOf (a .b) 0 (a .y) n) (a .image) (a .pixels .now) (a .k) (a .buffer .now)) all
+    ∙ row-all (a .layout) (a .b) (a .image) (a .pixels .now) (a .k) (a .buffer .now) (a .y)
+
+pub paint-row-spec : {M : Type 1} → statement M
+paint-row-spec =
+    tie.close
+    (tie.spec
+    Inv-loop
+    μ-loop
+    loop-holds
+    sub-left
+    paint-strip-requires
+    add-x
+    loop-less
+    loop-again
+    same-length
+    returns)
