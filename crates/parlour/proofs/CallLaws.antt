@@ -4,7 +4,10 @@
 --     paint-as-edit                       the edit is accepted, too
 --     paint-writes, paint-kept            the buffer of an accepted and of a refused painting
 --     paint-denied                        what is accepted of the owner is refused by 25 of anybody else
-use Prim.Native.Nat.{ℕ, _+_, _≤_}
+--     component-in-pixel, component-in-buffer   where the components of an accepted painting lie
+use Prim.Native.Nat.{ℕ, _+_, _*_, _≤_, _<_}
+use native.Mathlib.Omega.{arith}
+use native.Mathlib.Nat.{mul-le-mul-right}
 use mathlib.Core.Path.{_≡_, sym, ap, _∙_}
 use mathlib.Core.List.{List, []}
 use mathlib.Core.Logic.{_≢_}
@@ -21,15 +24,20 @@ use Rattle.layout.specs.Boxes.{boxCount}
 use Rattle.layout.specs.Rules.{storageChecks}
 use Rattle.layout.specs.Contents.{edited}
 use Rattle.pixels.specs.declared.PixelSetting.{PixelSetting}
+use Rattle.pixels.specs.Formats.{formatOf}
+use Rattle.pixels.specs.Places.{InImage}
+use Rattle.pixels.specs.Settings.{pixelBytes, pixelPosition}
+use Rattle.pixels.proofs.Valid.{valid}
 use Rattle.regions.specs.declared.RegionTable.{RegionTable}
 use Rattle.regions.specs.Rules.{Access, accessOf, regionBox, wholeRegion, editChecks}
 use Rattle.regions.specs.Calls.{editAnswer, editBuffer}
 use Rattle.regions.proofs.CallLaws.{others-denied}
 use Rattle.parlour.specs.declared.Conversion.{Conversion}
-use Rattle.parlour.specs.Components.{imageBox, paintedElements}
+use Rattle.parlour.specs.Components.{componentBytes, imageBox, paintedElements}
 use Rattle.parlour.specs.Rules.{pictureChecks, targetChecks, paintChecks}
 use Rattle.parlour.specs.Calls.{paintAnswer, paintBuffer}
 use Rattle.parlour.proofs.RuleLaws.{ValidPicture, picture-accepted, ValidTarget, target-accepted}
+use Rattle.parlour.proofs.ComponentLaws.{Parts, parts, strip-end}
 use Rattle.parlour.proofs.ElementLaws.{painted-length, painted-valid}
 
 module _ (a : Access) (image : PixelSetting) where
@@ -82,3 +90,25 @@ module _ (t : RegionTable) (n id id′ : ℕ) (other : id ≢ id′) where
       let picture = pictureChecks (t .layout) image (k .shift) given in
       inOrder-passed picture _ (inOrder-front picture _ ok)
       ∙ others-denied a (wholeRegion a) id′ other (inOrder-front _ _ (inOrder-back picture _ ok)) (wholeRegion (accessOf t n id′)) _
+
+-- ---- where the components of an accepted painting lie
+module _ (t : RegionTable) (n id : ℕ) (image : PixelSetting) (k : Conversion) (given len : ℕ) (ok : paintAnswer t n id image given k len ≡ Accepted) where
+  picture : ValidPicture (t .layout) image (k .shift) given
+  unfolding paintAnswer paintChecks
+  picture = picture-accepted (t .layout) image (k .shift) given (inOrder-front _ _ ok)
+
+  module _ (c : ℕ) (h : c < image .channels) where
+    filled : Parts (image .format)
+    filled = parts (image .format) (omega (arith, h, valid image (picture .setting) .channels-is))
+
+    pub component-in-pixel : (c + 1) * componentBytes (image .format) ≤ pixelBytes image
+    component-in-pixel =
+        let same = valid image (picture .setting) .channels-is in
+        omega (
+          arith,
+          mul-le-mul-right {m = c + 1} {n = formatOf (image .format) .channels} (componentBytes (image .format)) (omega (arith, h, same)),
+          filled .whole,
+        )
+
+    pub component-in-buffer : (x y : ℕ) → InImage image x y → pixelPosition image x y + (c + 1) * componentBytes (image .format) ≤ given
+    component-in-buffer x y i = omega (arith, component-in-pixel, strip-end image x y 1 (omega arith) (omega (arith, i .x-lt)) (i .y-lt), picture .room)

@@ -1,9 +1,13 @@
 -- Laws of the definitions of specs/, for the crates above.
---     RuleLaws      the orders of checks
---     ComponentLaws where components lie
---     ElementLaws   the elements that a picture becomes
---     CallLaws      painting as an edit
+--     Computed        pictures painted and the order, computed
+--     RuleLaws        the orders of checks
+--     ComponentLaws   where components lie
+--     ElementLaws     the elements that a picture becomes
+--     CallLaws        painting as an edit
+--     Claims          the claims about painting
+pub mod Computed
 pub mod RuleLaws
 pub mod ComponentLaws
 pub mod ElementLaws
 pub mod CallLaws
+pub mod Claims
