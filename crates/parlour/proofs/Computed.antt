@@ -102,6 +102,8 @@ pub record Computed : Type 0 where
   pub byte : map (λ (given : ℕ). asking (single 0) 3 (image 0 1 1 1 0 0 0 32) given 0 32) (1 ∷ 0 ∷ []) ≡ 0 ∷ 30 ∷ []
   -- no fp16 picture is taken, nor one of other channels than the frame's
   pub floats : map (λ (i : PixelSetting). asking (single 1) 3 i 99 0 32) (image 5 1 1 1 2 0 0 32 ∷ image 8 1 1 4 2 0 0 32 ∷ image 11 1 1 4 2 0 0 32 ∷ camera ∷ []) ≡ 29 ∷ 29 ∷ 29 ∷ 29 ∷ []
+  -- a picture of 2 columns and 1 row for such a region; one of 1 column and 2 rows is 9
+  pub shapes : map (λ (i : PixelSetting). asking (placeTable (emptyTable frame) 0 7 (rectangle 1 0 2 1)) 7 i 44 0 192) (image 12 2 1 4 0 1 0 32 ∷ image 12 1 2 4 0 1 0 32 ∷ []) ≡ 0 ∷ 9 ∷ []
   -- two faults at once: 19 and 1, 1 and 20, 20 and 21, 21 and 22, 22 and 29
   pub setting-double :
       map (λ (i : PixelSetting). on frame i 0 32) (image 17 0 2 4 0 1 0 32 ∷ image 12 0 2 3 0 1 0 32 ∷ image 12 2 2 3 0 8 0 32 ∷ image 12 2 2 4 0 8 0 31 ∷ image 8 2 2 4 2 1 0 0 ∷ [])
@@ -142,6 +144,7 @@ computed =
       length = refl;
       byte = refl;
       floats = refl;
+      shapes = refl;
       setting-double = refl;
       picture-double = refl;
       frame-double = refl;
