@@ -1,5 +1,5 @@
 -- Program and model in step, and still so after one call: the program's slots are the model's, and its buffer is the model's raw tensor packed over the
--- bytes from before the packing. By cases on the call and on its answer; a release is an edit of the whole region with zeros. Assumes nothing.
+-- bytes from before the packing. By cases on the call and on its answer; a release and a painting write as an edit does. Assumes nothing.
 --     Agrees                        program and model in step
 --     same-reply, same-elements     what one call replies and gives
 --     agrees-after                  still in step after one call
@@ -18,17 +18,26 @@ use Rattle.layout.specs.declared.CubeLayout.{CubeLayout}
 use Rattle.layout.specs.declared.ElementBox.{ElementBox}
 use Rattle.layout.specs.Geometry.{elementCount}
 use Rattle.layout.specs.Boxes.{boxCount}
-use Rattle.layout.specs.Contents.{packed, edited, zerosOf, boxElements}
+use Rattle.layout.specs.Contents.{packed, zerosOf, boxElements}
 use Rattle.layout.proofs.ContentLaws.{packed-length}
+use Rattle.pixels.specs.declared.PixelSetting.{PixelSetting}
 use Rattle.regions.specs.declared.Rectangle.{Rectangle}
-use Rattle.regions.specs.Slots.{slotsOf}
+use Rattle.regions.specs.declared.RegionTable.{RegionTable}
+use Rattle.regions.specs.Slots.{Slot, slotsOf}
 use Rattle.regions.specs.Rules.{Access, regionBox, wholeRegion, placeChecks, readChecks, editChecks, releaseChecks}
 use Rattle.regions.specs.Calls.{placeAnswer, editAnswer, editBuffer, readAnswer, readElements, releaseAnswer, releaseBuffer}
-use Rattle.regions.proofs.CallLaws.{read-accepted, edit-accepted, release-as-edit}
-use Rattle.history.specs.Program.{Call, place, edit, read, release, none, lends, SixteenBit, State, step}
+use Rattle.regions.proofs.CallLaws.{read-accepted, edit-accepted}
+use Rattle.parlour.specs.declared.Conversion.{Conversion}
+use Rattle.parlour.specs.Components.{paintedElements}
+use Rattle.parlour.specs.Rules.{paintChecks}
+use Rattle.parlour.specs.Calls.{paintAnswer, paintBuffer}
+use Rattle.parlour.proofs.ElementLaws.{painted-sixteen}
+use Rattle.parlour.proofs.CallLaws.{paint-as-edit}
+use Rattle.history.specs.Program.{Call, place, edit, read, release, paint, none, lends, SixteenBit, State, stateOf, step}
 use Rattle.history.specs.Model.{boxWritten, boxRead, Plain, named, plainAnswer, plainStep}
 use Rattle.history.proofs.TensorLaws.{boxWritten-length, packed-boxWritten, Fits, boxWritten-fits, packed-boxRead, zeros-at}
 use Rattle.history.proofs.TableLaws.{placed-layout, placed-slots, released-layout, released-slots}
+use Rattle.history.proofs.BufferLaws.{AsEdit, written, release-as}
 
 -- zeros are 16-bit numbers
 zeros-sixteen : (box : ElementBox) → SixteenBit (zerosOf box)
@@ -59,6 +68,11 @@ module _ (q : CubeLayout) (before : List ℕ) where
     unfolding releaseAnswer
     same-release n id = rw (a .slots, a .layout, len)
 
+    same-paint : (n id : ℕ) (image : PixelSetting) (given : ℕ) (k : Conversion)
+        → paintAnswer (s .table) n id image given k (length (s .buffer)) ≡ inOrder (paintChecks (theirs n id) image (k .shift) given (length before))
+    unfolding paintAnswer
+    same-paint n id image given k = rw (a .slots, a .layout, len)
+
     module _ (n id : ℕ) (b : ElementBox) (xs : List ℤ) where
       same-edit : editAnswer (s .table) n id b xs (length (s .buffer)) ≡ inOrder (editChecks (theirs n id) b xs (length before))
       unfolding editAnswer
@@ -74,6 +88,7 @@ module _ (q : CubeLayout) (before : List ℕ) where
     same-reply (edit n id b xs) = ap (λ (x : Answer). record { answer = x; value = none }) (same-edit n id b xs)
     same-reply (read n id b xs) = ap (λ (x : Answer). record { answer = x; value = none }) (same-read n id b xs)
     same-reply (release n id) = ap (λ (x : Answer). record { answer = x; value = none }) (same-release n id)
+    same-reply (paint n id image pixels k) = ap (λ (x : Answer). record { answer = x; value = none }) (same-paint n id image (length pixels) k)
 
     -- ---- a read
     read-cases : (n id : ℕ) (b : ElementBox) (xs : List ℤ) (v : Answer) → inOrder (readChecks (theirs n id) b (length xs) (length before)) ≡ v
@@ -90,32 +105,35 @@ module _ (q : CubeLayout) (before : List ℕ) where
     same-elements (edit n id b xs) = refl
     same-elements (read n id b xs) = rw (same-read n id b xs, a .slots, a .layout, a .bytes) (read-cases n id b xs _ refl)
     same-elements (release n id) = refl
+    same-elements (paint n id image pixels k) = refl
 
-    -- ---- an edit, and a release, which is one
+    -- ---- a call that writes as an edit does
     module _ (n id : ℕ) (b : ElementBox) (xs : List ℤ) (sixteen : SixteenBit xs) where
-      -- by the model's answer v: its raw tensor after the edit is as long, fits, and packed it is the buffer after the edit
-      record Written (v : Answer) : Type 0 where
-        count : length (leaves v (boxWritten q (regionBox (theirs n id) b) xs (m .raw)) (m .raw)) ≡ elementCount q
-        fits : Fits q (leaves v (boxWritten q (regionBox (theirs n id) b) xs (m .raw)) (m .raw))
-        bytes : leaves v (edited q (regionBox (theirs n id) b) xs (packed q (m .raw) before)) (packed q (m .raw) before)
-            ≡ packed q (leaves v (boxWritten q (regionBox (theirs n id) b) xs (m .raw)) (m .raw)) before
+      -- the model's raw tensor after it, by its answer v
+      abbrev left : Answer → List ℤ
+      left v = leaves v (boxWritten q (regionBox (theirs n id) b) xs (m .raw)) (m .raw)
 
-      edit-cases : (v : Answer) → inOrder (editChecks (theirs n id) b xs (length before)) ≡ v → Written v
+      -- program and model are in step after it, with the table and the slots that it leaves
+      write-agrees : {t : RegionTable} {slots : List Slot} {buf : List ℕ} (v : Answer) → AsEdit (theirs n id) b xs (length before) v → t .layout ≡ q → slotsOf t ≡ slots
+          → buf ≡ written (theirs n id) b xs (packed q (m .raw) before) v → Agrees (stateOf t buf) (record { raw = left v; slots = slots })
       unfolding leaves
-      edit-cases Accepted e =
+      write-agrees Accepted e same-layout same-slots same-buffer =
           let box = regionBox (theirs n id) b in
-          let v = edit-accepted (theirs n id) b xs (length before) e in
+          let v = edit-accepted (theirs n id) b xs (length before) (e refl) in
           let d = v .reads .admitted in
           let own : Fits q xs = record { fit = λ i h. valueValid-fits (q .precision) (getD xs i (pos 0)) (valueChecks-valid (q .precision) xs (v .values) i h) (sixteen .each i) } in
           record {
+            layout = same-layout;
+            slots = same-slots;
             count = boxWritten-length q box xs (m .raw) ∙ a .count;
             fits = boxWritten-fits q box xs (m .raw) (d .count) own (a .fits);
-            bytes = sym (packed-boxWritten q box xs (m .raw) (a .count) (d .layout) before);
+            bytes = same-buffer ∙ sym (packed-boxWritten q box xs (m .raw) (a .count) (d .layout) before);
           }
-      edit-cases (Refused r i) e = record { count = a .count; fits = a .fits; bytes = refl }
+      write-agrees (Refused r i) e same-layout same-slots same-buffer =
+          record { layout = same-layout; slots = same-slots; count = a .count; fits = a .fits; bytes = same-buffer }
 
     pub agrees-after : (c : Call) → SixteenBit (lends c) → Agrees (step s c .state) (plainStep q (length before) m c .state)
-    unfolding step plainStep plainAnswer lends editBuffer releaseBuffer boxCount
+    unfolding step plainStep plainAnswer lends editBuffer releaseBuffer paintBuffer boxCount
     agrees-after (place n id g) sixteen =
         record {
           layout = placed-layout (s .table) n id g ∙ a .layout;
@@ -124,23 +142,17 @@ module _ (q : CubeLayout) (before : List ℕ) where
           fits = a .fits;
           bytes = a .bytes;
         }
-    agrees-after (edit n id b xs) sixteen =
-        let w = edit-cases n id b xs sixteen _ refl in
-        record {
-          layout = a .layout;
-          slots = a .slots;
-          count = w .count;
-          fits = w .fits;
-          bytes = rw (same-edit n id b xs, a .slots, a .layout, a .bytes) (w .bytes);
-        }
+    agrees-after (edit n id b xs) sixteen = write-agrees n id b xs sixteen _ (λ ok. ok) (a .layout) (a .slots) (rw (same-edit n id b xs, a .slots, a .layout, a .bytes))
     agrees-after (read n id b xs) sixteen = a
     agrees-after (release n id) sixteen =
         let all = wholeRegion (theirs n id) in
-        let w = edit-cases n id all (zerosOf all) (zeros-sixteen all) _ (sym (release-as-edit (theirs n id) (length before))) in
-        record {
-          layout = released-layout (s .table) n id (length (s .buffer)) ∙ a .layout;
-          slots = released-slots (s .table) n id (length (s .buffer)) ∙ rw (same-release n id, a .slots);
-          count = w .count;
-          fits = w .fits;
-          bytes = rw (same-release n id, a .slots, a .layout, a .bytes) (w .bytes);
-        }
+        write-agrees n id all (zerosOf all) (zeros-sixteen all) _ (release-as (theirs n id) (length before))
+        (released-layout (s .table) n id (length (s .buffer)) ∙ a .layout)
+        (released-slots (s .table) n id (length (s .buffer)) ∙ rw (same-release n id, a .slots))
+        (rw (same-release n id, a .slots, a .layout, a .bytes))
+    agrees-after (paint n id image pixels k) sixteen =
+        let xs = paintedElements image pixels k (q .precision) in
+        write-agrees n id (wholeRegion (theirs n id)) xs (painted-sixteen image pixels k (q .precision)) _ (paint-as-edit (theirs n id) image k pixels (length before))
+        (a .layout)
+        (a .slots)
+        (rw (same-paint n id image (length pixels) k, a .slots, a .layout, a .bytes))

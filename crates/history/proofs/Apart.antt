@@ -28,7 +28,7 @@ use Rattle.regions.specs.Rules.{access, accessOf, slotAt, placeChecks}
 use Rattle.regions.specs.Calls.{emptyTable, placeAnswer, placeTable, releaseAnswer, releaseTable}
 use Rattle.regions.proofs.RuleLaws.{Placing, place-accepted, rectangle-columns, rectangle-rows}
 use Rattle.regions.proofs.OverlapLaws.{InRectangle, has-in, overlaps-apart}
-use Rattle.history.specs.Program.{Call, place, edit, read, release, State, beginning, step, runTo, moment, slotsAt}
+use Rattle.history.specs.Program.{Call, place, edit, read, release, paint, State, beginning, step, runTo, moment, slotsAt}
 use Rattle.history.proofs.TableLaws.{placed-layout, placed-slots, released-layout, released-slots, layout-after}
 
 -- the placed rectangles are in the cube, and no two have a position in common
@@ -120,6 +120,7 @@ apart-after s (place n id g) a = apart-place (s .table) n id a g
 apart-after s (edit n id b xs) a = a
 apart-after s (read n id b xs) a = a
 apart-after s (release n id) a = apart-release (s .table) n id a (length (s .buffer))
+apart-after s (paint n id image pixels k) a = a
 
 apart-run : (s : State) (calls : List Call) → Apart (s .table .layout) (slotsOf (s .table)) → Apart (runTo s calls .table .layout) (slotsOf (runTo s calls .table))
 unfolding runTo

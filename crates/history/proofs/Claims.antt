@@ -1,7 +1,8 @@
--- The claims about every list of calls (scope paper, "The plain picture"; demand 3; change request K1). `program` folds the steps that `begin`, `place`,
--- `edit`, `read` and `release` of `history_calls` promise, and these do nothing but call `pack`, `empty`, `place`, `edit`, `read` and `release`; `model` has no
--- buffer and no table of the program.
--- Premises: packing was accepted; lent elements are 16-bit numbers, as in every slice of i16. Assumes nothing.
+-- The claims about every list of calls (scope paper, "The plain picture"; demand 3; change requests K1, K3). `program` folds the steps that `begin`, `place`,
+-- `edit`, `read`, `release` and `paint` of `history_calls` promise, and these do nothing but call `pack`, `empty`, `place`, `edit`, `read`, `release` and `paint`;
+-- `model` has no buffer and no table of the program.
+-- Premises: packing was accepted; lent elements are 16-bit numbers, as in every slice of i16. Lent pixels are bytes, as in every slice of u8, but nothing is
+-- asked of them: what they are converted to is held to the cube's precision, whatever they are. Assumes nothing.
 use Prim.Native.Nat.{ℕ, _+_, _<_}
 use mathlib.Core.Path.{_≡_}
 use mathlib.Core.Logic.{_≢_}
@@ -55,8 +56,8 @@ module _ (q : CubeLayout) (raw : List ℤ) (before : List ℕ) (accepted : packA
 
 module _ (q : CubeLayout) (raw : List ℤ) (before : List ℕ) where
   module _ (calls : List Call) where
-    -- at every moment a call changes only bytes of the elements that it names to be written: an edit those of its box, a release those of its region, a
-    -- placing and a read none
+    -- at every moment a call changes only bytes of the elements that it names to be written: an edit those of its box, a release and a painting those of its
+    -- region, a placing and a read none
     pub edit-changes : (call : Call) (p : ℕ)
         → ((c h w k : ℕ) → writesElement (moment q raw before calls .table) call c h w ≡ true → k < sizeOf q → p ≡ elementPosition q c h w + k → ⊥)
         → getD (step (moment q raw before calls) call .state .buffer) p 0 ≡ getD (moment q raw before calls .buffer) p 0
@@ -68,8 +69,8 @@ module _ (q : CubeLayout) (raw : List ℤ) (before : List ℕ) where
         × (step (step (moment q raw before calls) call .state) (read m id b ys) .elements ≡ step (moment q raw before calls) (read m id b ys) .elements)
     read-undisturbed = separation.read-undisturbed q (moment q raw before calls) (apart.layout-at q raw before calls) (apart.apart-at q raw before calls)
 
-  -- after an accepted release, and however the list goes on, an element of the region that was released, unless an accepted edit has written it since, is
-  -- read as 0 by every accepted read of it, whoever owns a region there
+  -- after an accepted release, and however the list goes on, an element of the region that was released, unless an accepted edit has written it since, a
+  -- painting being an edit of its whole region, is read as 0 by every accepted read of it, whoever owns a region there
   pub released-zero : (first rest : List Call) (n id : ℕ) → step (moment q raw before first) (release n id) .reply .answer ≡ Accepted
       → (c h w : ℕ) → c < q .channels → rectangleHas (rectangleAt (slotsAt q raw before first) n) w h ≡ true
       → Unwritten (step (moment q raw before first) (release n id) .state) rest c h w → ReadsZero (moment q raw before (first ++ (release n id ∷ rest))) c h w

@@ -1,10 +1,10 @@
--- The example's list, computed: its packing is accepted, and the answers, the elements read and the bytes changed are these; and what the plain picture
--- gives for it. Assumes nothing.
+-- The two lists to follow by hand, computed: their packings are accepted, and the answers, the elements read and the bytes changed are these; and what the
+-- plain picture gives for them. Assumes nothing.
 use Prim.Native.Nat.{ℕ}
 use mathlib.Core.Path.{_≡_, refl}
 use mathlib.Core.List.{List, [], _∷_, map}
 use lib.ListN.{length, getD, set}
-use lib.IntN.{pos, negsuc}
+use lib.IntN.{ℤ, pos, negsuc}
 use Rattle.refusal.specs.declared.Answer.the-variants.{Accepted}
 use Rattle.refusal.specs.Codes.{answerCode, faultIndex}
 use Rattle.refusal.specs.Sizes.{sizeValid}
@@ -18,31 +18,64 @@ use Rattle.layout.specs.Rules.{sizesValid, wholeAtoms, stridesValid, layoutChec
 use Rattle.layout.specs.Owners.{surfaceOf, rowOf, columnOf, byteInAtom, inAtom, atomOwner, owner}
 use Rattle.layout.specs.Contents.{packedByte, packed, editedByte, edited, readElement, boxElements}
 use Rattle.layout.specs.Calls.{packAnswer, packBuffer}
+use Rattle.integers.specs.Saturate.{saturate}
+use Rattle.pixels.specs.Formats.{formatTable, formatIn, formatOf}
+use Rattle.pixels.specs.Settings.{kindValid, stridesValid as pixelStrides, settingChecks, pixelPosition}
+use Rattle.quantize.specs.Quantize.{lowest, highest, quantizeChecks, quantized}
 use Rattle.regions.specs.Slots.{rectangle, filled, slotOf, slotsOf, emptySlots, rectangleHas, occupied, anyFrom, overlaps, rectangleInside}
 use Rattle.regions.specs.Rules.{slotAt, isFilled, rectangleOf, idOf, placeChecks, boxInRectangle, slotChecks, regionBoxChecks, readChecks, editChecks, releaseChecks}
 use Rattle.regions.specs.Calls.{placeAnswer, placeTable, editAnswer, editBuffer, readAnswer, readElements, releaseAnswer, releaseTable, releaseBuffer}
+use Rattle.parlour.specs.Components.{componentBytes, componentValue, componentAt, component, paintedElements}
+use Rattle.parlour.specs.Rules.{kindTaken, imageEnd, fillsRectangle, pictureChecks, targetChecks, paintChecks}
+use Rattle.parlour.specs.Calls.{paintAnswer, paintBuffer}
 use Rattle.history.specs.Program.{none, Shown, step, program}
 use Rattle.history.specs.Model.{PlainStep, boxWritten, boxRead, plainAnswer, plainStep, model, given}
 use Rattle.history.specs.Example.{layout, tensor, buffer, calls, shownOf}
+use Rattle.history.specs.Paintings as paintings
 
--- what the list shows at call n
+-- what a list shows at call n; the first list, and that with paintings
+abbrev shownAt : List Shown → ℕ → Shown
+shownAt l n = getD l n (record { reply = record { answer = Accepted; value = none }; elements = []; buffer = [] })
+
 abbrev nth : ℕ → Shown
-nth n = getD shownOf n (record { reply = record { answer = Accepted; value = none }; elements = []; buffer = [] })
+nth n = shownAt shownOf n
 
--- the answers to the list
+abbrev painting : ℕ → Shown
+painting n = shownAt paintings.shownOf n
+
+-- the answers to them
+abbrev answerCodes : List Shown → List ℕ
+answerCodes l = map (λ (s : Shown). answerCode (s .reply .answer)) l
+
 abbrev codes : List ℕ
 codes =
     0 ∷ 10 ∷ 8 ∷ 9 ∷ 8 ∷ 25 ∷ 0 ∷ 0 ∷ 0 ∷ 8 ∷ 25 ∷ 9 ∷ 6 ∷ 7 ∷ 0 ∷ 0 ∷ 8 ∷ 25 ∷ 9 ∷ 6 ∷ 25 ∷ 0 ∷ 8 ∷ 0 ∷ 0 ∷ 0 ∷ 0 ∷ 0 ∷ []
 
--- the bytes after call n at 0, 1, 32, 33, 64, 65: channels 0 and 1 of columns 0, 1 and 2
+abbrev paintingCodes : List ℕ
+paintingCodes = 0 ∷ 0 ∷ 29 ∷ 16 ∷ 30 ∷ 25 ∷ 9 ∷ 0 ∷ 0 ∷ 0 ∷ 0 ∷ 0 ∷ 0 ∷ 8 ∷ 0 ∷ 0 ∷ 0 ∷ 0 ∷ []
+
+-- bytes after a call
+abbrev bytesAt : Shown → List ℕ → List ℕ
+bytesAt s places = map (λ (p : ℕ). getD (s .buffer) p 0) places
+
+-- channels 0 and 1 of columns 0, 1 and 2
 abbrev bytes : ℕ → List ℕ
-bytes n = map (λ (p : ℕ). getD (nth n .buffer) p 0) (0 ∷ 1 ∷ 32 ∷ 33 ∷ 64 ∷ 65 ∷ [])
+bytes n = bytesAt (nth n) (0 ∷ 1 ∷ 32 ∷ 33 ∷ 64 ∷ 65 ∷ [])
+
+-- channels 0 to 3 of columns 0 and 1
+abbrev paintedBytes : ℕ → List ℕ
+paintedBytes n = bytesAt (painting n) (0 ∷ 1 ∷ 2 ∷ 3 ∷ 32 ∷ 33 ∷ 34 ∷ 35 ∷ [])
+
+-- what the pixel becomes
+abbrev pixelElements : List ℤ
+pixelElements = pos 3 ∷ negsuc 2 ∷ pos 127 ∷ negsuc 127 ∷ []
 
 -- the packing; the answers, with the fault index of 7; reads before and after the release; and the bytes that the edits change, that a refused release leaves
--- and that the accepted one clears
+-- and that the accepted one clears. Of the list with paintings: the packing; the answers; what is read of the painted region, of the other, after the edit,
+-- after the release and of the region painted anew; and the bytes that refused paintings leave, that the accepted one changes and that the release clears
 pub record Computed : Type 0 where
   pub packing : answerCode (packAnswer layout tensor (length buffer)) ≡ 0
-  pub answers : map (λ (s : Shown). answerCode (s .reply .answer)) shownOf ≡ codes
+  pub answers : answerCodes shownOf ≡ codes
   pub fault-index : faultIndex (nth 13 .reply .answer) ≡ 1
   pub read-0 : nth 14 .elements ≡ pos 1 ∷ pos 2 ∷ pos 4 ∷ negsuc 7 ∷ []
   pub read-1 : nth 15 .elements ≡ pos 9 ∷ negsuc 5 ∷ []
@@ -54,17 +87,40 @@ pub record Computed : Type 0 where
   pub byte-64 : getD (nth 7 .buffer) 64 0 ∷ getD (nth 8 .buffer) 64 0 ∷ [] ≡ 3 ∷ 9 ∷ []
   pub refused : bytes 20 ≡ 1 ∷ 4 ∷ 2 ∷ 248 ∷ 9 ∷ 250 ∷ []
   pub cleared : bytes 21 ≡ 0 ∷ 0 ∷ 0 ∷ 0 ∷ 9 ∷ 250 ∷ []
+  pub painting-packed : answerCode (packAnswer paintings.layout paintings.tensor (length paintings.buffer)) ≡ 0
+  pub painting-answers : answerCodes paintings.shownOf ≡ paintingCodes
+  pub read-painted : painting 8 .elements ≡ pixelElements
+  pub read-beside : painting 9 .elements ≡ pos 1 ∷ pos 2 ∷ pos 3 ∷ pos 4 ∷ []
+  pub read-edited : painting 11 .elements ≡ pos 3 ∷ pos 9 ∷ pos 127 ∷ negsuc 127 ∷ []
+  pub read-released : painting 15 .elements ≡ pos 0 ∷ pos 0 ∷ pos 0 ∷ pos 0 ∷ []
+  pub read-anew : painting 17 .elements ≡ pixelElements
+  pub unpainted : paintedBytes 6 ≡ 1 ∷ 2 ∷ 3 ∷ 4 ∷ 5 ∷ 6 ∷ 7 ∷ 248 ∷ []
+  pub painted : paintedBytes 7 ≡ 1 ∷ 2 ∷ 3 ∷ 4 ∷ 3 ∷ 253 ∷ 127 ∷ 128 ∷ []
+  pub painting-cleared : paintedBytes 13 ≡ 1 ∷ 2 ∷ 3 ∷ 4 ∷ 0 ∷ 0 ∷ 0 ∷ 0 ∷ []
 
--- the plain picture of the same list: its answers; the raw tensor after each of the first two edits and after a refused one; what a read gives; and the raw
--- tensor and the slots after the release, and what is read then
+-- the plain pictures of the same lists: of the first its answers; the raw tensor after each of the first two edits and after a refused one; what a read gives;
+-- and the raw tensor and the slots after the release, and what is read then. Of that with paintings its answers; the raw tensor after a refused painting, after
+-- the accepted one, after the edit and after the release; and what is read of the painted region
 abbrev plain : List PlainStep
 plain = model layout (length buffer) (given tensor) calls
 
+abbrev plainPaintings : List PlainStep
+plainPaintings = model paintings.layout (length paintings.buffer) (given paintings.tensor) paintings.calls
+
+abbrev plainAt : List PlainStep → ℕ → PlainStep
+plainAt l n = getD l n (record { reply = record { answer = Accepted; value = none }; elements = []; state = given [] })
+
 abbrev nthPlain : ℕ → PlainStep
-nthPlain n = getD plain n (record { reply = record { answer = Accepted; value = none }; elements = []; state = given [] })
+nthPlain n = plainAt plain n
+
+abbrev plainPainting : ℕ → PlainStep
+plainPainting n = plainAt plainPaintings n
+
+abbrev plainCodes : List PlainStep → List ℕ
+plainCodes l = map (λ (g : PlainStep). answerCode (g .reply .answer)) l
 
 pub record Pictured : Type 0 where
-  pub answers : map (λ (g : PlainStep). answerCode (g .reply .answer)) plain ≡ codes
+  pub answers : plainCodes plain ≡ codes
   pub edited-0 : nthPlain 7 .state .raw ≡ pos 1 ∷ pos 2 ∷ pos 3 ∷ pos 4 ∷ negsuc 7 ∷ negsuc 5 ∷ []
   pub edited-1 : nthPlain 8 .state .raw ≡ pos 1 ∷ pos 2 ∷ pos 9 ∷ pos 4 ∷ negsuc 7 ∷ negsuc 5 ∷ []
   pub refused : nthPlain 13 .state .raw ≡ pos 1 ∷ pos 2 ∷ pos 9 ∷ pos 4 ∷ negsuc 7 ∷ negsuc 5 ∷ []
@@ -74,9 +130,15 @@ pub record Pictured : Type 0 where
   pub emptied : nthPlain 21 .state .slots ≡ set emptySlots 1 (filled 12 (rectangle 2 0 1 1))
   pub read-zeros : nthPlain 24 .elements ≡ pos 0 ∷ pos 0 ∷ pos 0 ∷ pos 0 ∷ []
   pub read-new : nthPlain 26 .elements ≡ pos 0 ∷ pos 0 ∷ pos 3 ∷ pos 0 ∷ []
+  pub painting-answers : plainCodes plainPaintings ≡ paintingCodes
+  pub unpainted : plainPainting 6 .state .raw ≡ paintings.tensor
+  pub painted : plainPainting 7 .state .raw ≡ pos 1 ∷ pos 3 ∷ pos 2 ∷ negsuc 2 ∷ pos 3 ∷ pos 127 ∷ pos 4 ∷ negsuc 127 ∷ []
+  pub read-painted : plainPainting 8 .elements ≡ pixelElements
+  pub painting-edited : plainPainting 10 .state .raw ≡ pos 1 ∷ pos 3 ∷ pos 2 ∷ pos 9 ∷ pos 3 ∷ pos 127 ∷ pos 4 ∷ negsuc 127 ∷ []
+  pub painting-released : plainPainting 13 .state .raw ≡ pos 1 ∷ pos 0 ∷ pos 2 ∷ pos 0 ∷ pos 3 ∷ pos 0 ∷ pos 4 ∷ pos 0 ∷ []
 
 pub computed : Computed
-unfolding requireAt inOrder leaves elementBytes byteOf wordAt signed elementAt remadeFrom remade tabulateFrom tabulate valueValid valueCheck valueChecksFrom valueChecks elementCount rawIndex surfaces elementPosition cubeExtent boxCount spanInside spanHas boxHas boxIndex channelAt rowAt columnAt sizeValid sizesValid wholeAtoms stridesValid layoutChecks storageChecks cubeChecks surfaceOf rowOf columnOf byteInAtom inAtom atomOwner owner packedByte packed editedByte edited readElement boxElements packAnswer packBuffer slotOf slotsOf rectangleHas occupied anyFrom overlaps rectangleInside slotAt isFilled rectangleOf idOf placeChecks boxInRectangle slotChecks regionBoxChecks readChecks editChecks releaseChecks placeAnswer placeTable editAnswer editBuffer readAnswer readElements releaseAnswer releaseTable releaseBuffer step program calls
+unfolding requireAt inOrder leaves elementBytes byteOf wordAt signed elementAt remadeFrom remade tabulateFrom tabulate valueValid valueCheck valueChecksFrom valueChecks elementCount rawIndex surfaces elementPosition cubeExtent boxCount spanInside spanHas boxHas boxIndex channelAt rowAt columnAt sizeValid sizesValid wholeAtoms stridesValid layoutChecks storageChecks cubeChecks surfaceOf rowOf columnOf byteInAtom inAtom atomOwner owner packedByte packed editedByte edited readElement boxElements packAnswer packBuffer slotOf slotsOf rectangleHas occupied anyFrom overlaps rectangleInside slotAt isFilled rectangleOf idOf placeChecks boxInRectangle slotChecks regionBoxChecks readChecks editChecks releaseChecks placeAnswer placeTable editAnswer editBuffer readAnswer readElements releaseAnswer releaseTable releaseBuffer saturate formatTable formatIn formatOf kindValid pixelStrides settingChecks pixelPosition lowest highest quantizeChecks quantized componentBytes componentValue componentAt component paintedElements kindTaken imageEnd fillsRectangle pictureChecks targetChecks paintChecks paintAnswer paintBuffer step program calls paintings.calls
 computed =
     record {
       packing = refl;
@@ -92,10 +154,20 @@ computed =
       byte-64 = refl;
       refused = refl;
       cleared = refl;
+      painting-packed = refl;
+      painting-answers = refl;
+      read-painted = refl;
+      read-beside = refl;
+      read-edited = refl;
+      read-released = refl;
+      read-anew = refl;
+      unpainted = refl;
+      painted = refl;
+      painting-cleared = refl;
     }
 
 pub pictured : Pictured
-unfolding requireAt inOrder leaves elementBytes byteOf wordAt signed elementAt remadeFrom remade tabulateFrom tabulate valueValid valueCheck valueChecksFrom valueChecks elementCount rawIndex surfaces elementPosition cubeExtent boxCount spanInside spanHas boxHas boxIndex channelAt rowAt columnAt sizeValid sizesValid wholeAtoms stridesValid layoutChecks storageChecks cubeChecks surfaceOf rowOf columnOf byteInAtom inAtom atomOwner owner packedByte packed editedByte edited readElement boxElements packAnswer packBuffer slotOf slotsOf rectangleHas occupied anyFrom overlaps rectangleInside slotAt isFilled rectangleOf idOf placeChecks boxInRectangle slotChecks regionBoxChecks readChecks editChecks releaseChecks emptySlots boxWritten boxRead plainAnswer plainStep model calls
+unfolding requireAt inOrder leaves elementBytes byteOf wordAt signed elementAt remadeFrom remade tabulateFrom tabulate valueValid valueCheck valueChecksFrom valueChecks elementCount rawIndex surfaces elementPosition cubeExtent boxCount spanInside spanHas boxHas boxIndex channelAt rowAt columnAt sizeValid sizesValid wholeAtoms stridesValid layoutChecks storageChecks cubeChecks surfaceOf rowOf columnOf byteInAtom inAtom atomOwner owner packedByte packed editedByte edited readElement boxElements packAnswer packBuffer slotOf slotsOf rectangleHas occupied anyFrom overlaps rectangleInside slotAt isFilled rectangleOf idOf placeChecks boxInRectangle slotChecks regionBoxChecks readChecks editChecks releaseChecks emptySlots saturate formatTable formatIn formatOf kindValid pixelStrides settingChecks pixelPosition lowest highest quantizeChecks quantized componentBytes componentValue componentAt component paintedElements kindTaken imageEnd fillsRectangle pictureChecks targetChecks paintChecks boxWritten boxRead plainAnswer plainStep model calls paintings.calls
 pictured =
     record {
       answers = refl;
@@ -108,4 +180,10 @@ pictured =
       emptied = refl;
       read-zeros = refl;
       read-new = refl;
+      painting-answers = refl;
+      unpainted = refl;
+      painted = refl;
+      read-painted = refl;
+      painting-edited = refl;
+      painting-released = refl;
     }

@@ -1,11 +1,11 @@
--- An element of a region that was released is read as 0 until an accepted edit writes it: its bytes are 0 after the release, and every later call keeps
--- them or writes zeros. By induction on the list. Assumes nothing.
+-- An element of a region that was released is read as 0 until an accepted edit writes it, a painting being one: its bytes are 0 after the release, and
+-- every later call keeps them or writes zeros. By induction on the list. Assumes nothing.
 --     zero-released, zero-after     what the release leaves, and what one call keeps
 --     zero-run                      what a list of calls keeps
 --     released-zero                 from the beginning on
 use Prim.Native.Nat.{ℕ, _<_}
 use native.Mathlib.Omega.{arith}
-use mathlib.Core.Path.{_≡_, refl, sym, _∙_, subst}
+use mathlib.Core.Path.{_≡_, refl, sym, subst}
 use mathlib.Core.Bool.{true, false}
 use mathlib.Core.List.{List, [], _∷_, _++_}
 use lib.ListN.{length}
@@ -17,27 +17,34 @@ use Rattle.layout.specs.Boxes.{boxCount, boxHas, boxIndex}
 use Rattle.layout.specs.Contents.{zerosOf}
 use Rattle.layout.proofs.BoxLaws.{InCube, in-boxHas, boxHas-in, in-cube}
 use Rattle.regions.specs.Slots.{slotsOf, rectangleHas}
-use Rattle.regions.specs.Rules.{accessOf, rectangleAt, regionBox, wholeRegion}
-use Rattle.regions.specs.Calls.{editAnswer, releaseAnswer}
-use Rattle.regions.proofs.CallLaws.{edit-accepted, release-answers, release-writes}
+use Rattle.regions.specs.Rules.{Access, accessOf, rectangleAt, regionBox, wholeRegion}
+use Rattle.regions.specs.Calls.{editAnswer, editBuffer, releaseAnswer, releaseBuffer}
+use Rattle.regions.proofs.CallLaws.{release-accepted}
 use Rattle.regions.proofs.OverlapLaws.{has-in}
-use Rattle.history.specs.Program.{Call, place, edit, read, release, State, beginning, step, runTo, moment, slotsAt}
+use Rattle.parlour.specs.Components.{paintedElements}
+use Rattle.parlour.specs.Calls.{paintAnswer, paintBuffer}
+use Rattle.parlour.proofs.CallLaws.{paint-as-edit}
+use Rattle.history.specs.Program.{Call, place, edit, read, release, paint, State, beginning, step, runTo, moment, slotsAt}
 use Rattle.history.specs.Writes.{editsElement, Unwritten, ReadsZero}
 use Rattle.history.proofs.TensorLaws.{zeros-at}
 use Rattle.history.proofs.TableLaws.{layout-after}
+use Rattle.history.proofs.BufferLaws.{release-as}
 use Rattle.history.proofs.Apart.{layout-at}
-use Rattle.history.proofs.ZeroLaws.{Zeroed, zero-read, zero-written, zero-kept}
+use Rattle.history.proofs.ZeroLaws.{Zeroed, zero-read, zero-written, zero-kept, zero-unwritten}
 
 -- ---- the release: an accepted one writes 0 to every element of its region
 module _ (s : State) (n id : ℕ) (ok : releaseAnswer (s .table) n id (length (s .buffer)) ≡ Accepted) (c h w : ℕ) (hc : c < s .table .layout .channels)
     (has : rectangleHas (rectangleAt (slotsOf (s .table)) n) w h ≡ true) where
-  abbrev all : ElementBox
-  all = wholeRegion (accessOf (s .table) n id)
+  abbrev a : Access
+  a = accessOf (s .table) n id
 
-  in-all : boxHas (regionBox (accessOf (s .table) n id) all) c h w ≡ true
+  abbrev all : ElementBox
+  all = wholeRegion a
+
+  in-all : boxHas (regionBox a all) c h w ≡ true
   in-all =
       let i = has-in (rectangleAt (slotsOf (s .table)) n) w h has in
-      in-boxHas (regionBox (accessOf (s .table) n id) all) c h w
+      in-boxHas (regionBox a all) c h w
       (record {
         channel-ge = omega arith;
         channel-lt = omega (arith, hc);
@@ -47,35 +54,31 @@ module _ (s : State) (n id : ℕ) (ok : releaseAnswer (s .table) n id (length (s
         column-lt = omega (arith, i .column-lt);
       })
 
-  edit-ok : editAnswer (s .table) n id all (zerosOf all) (length (s .buffer)) ≡ Accepted
-  edit-ok = sym (release-answers (s .table) n id (s .buffer)) ∙ ok
-
   released-cube : InCube (s .table .layout) c h w
-  unfolding editAnswer
+  unfolding releaseAnswer
   released-cube =
-      in-cube (s .table .layout) (regionBox (accessOf (s .table) n id) all) c h w (edit-accepted (accessOf (s .table) n id) all (zerosOf all) (length (s .buffer)) edit-ok .reads .admitted .inside)
-      (boxHas-in (regionBox (accessOf (s .table) n id) all) c h w in-all)
+      in-cube (s .table .layout) (regionBox a all) c h w (release-accepted a (length (s .buffer)) ok .reads .admitted .inside) (boxHas-in (regionBox a all) c h w in-all)
 
   zero-released : Zeroed (s .table .layout) (step s (release n id) .state .buffer) c h w
-  unfolding step
+  unfolding step releaseAnswer releaseBuffer boxCount
   zero-released =
-      subst (λ (l : List ℕ). Zeroed (s .table .layout) l c h w) (sym (release-writes (s .table) n id (s .buffer)))
-      (zero-written (s .table) n id all (zerosOf all) (s .buffer) c h w edit-ok in-all (zeros-at (boxCount all) (boxIndex (regionBox (accessOf (s .table) n id) all) c h w)))
+      zero-written a all (zerosOf all) (s .buffer) _ (release-as a (length (s .buffer))) c h w ok in-all (zeros-at (boxCount all) (boxIndex (regionBox a all) c h w))
 
 -- ---- one call after it, and a list of calls
 module _ (c h w : ℕ) where
   zero-after : (s : State) (call : Call) → InCube (s .table .layout) c h w → (step s call .reply .answer ≡ Accepted → editsElement (s .table) call c h w ≡ false)
       → Zeroed (s .table .layout) (s .buffer) c h w → Zeroed (s .table .layout) (step s call .state .buffer) c h w
-  unfolding step editsElement
+  unfolding step editsElement editAnswer editBuffer releaseAnswer releaseBuffer paintAnswer paintBuffer boxCount
   zero-after s (place n id g) cube f z = z
-  zero-after s (edit n id b xs) cube f z =
-      zero-kept (s .table) n id b xs (s .buffer) c h w cube z
-      (λ ok has. absurd (let not-in = f ok in let x : _≡_ {A = ℕ} 0 1 = cc in let no-such : ⊥ = omega arith in no-such))
+  zero-after s (edit n id b xs) cube f z = zero-unwritten (accessOf (s .table) n id) b xs (s .buffer) _ (λ ok. ok) c h w cube z f
   zero-after s (read n id b xs) cube f z = z
   zero-after s (release n id) cube f z =
-      let all = wholeRegion (accessOf (s .table) n id) in
-      subst (λ (l : List ℕ). Zeroed (s .table .layout) l c h w) (sym (release-writes (s .table) n id (s .buffer)))
-      (zero-kept (s .table) n id all (zerosOf all) (s .buffer) c h w cube z (λ ok has. zeros-at (boxCount all) (boxIndex (regionBox (accessOf (s .table) n id) all) c h w)))
+      let a = accessOf (s .table) n id in
+      let all = wholeRegion a in
+      zero-kept a all (zerosOf all) (s .buffer) _ (release-as a (length (s .buffer))) c h w cube z (λ ok has. zeros-at (boxCount all) (boxIndex (regionBox a all) c h w))
+  zero-after s (paint n id image pixels k) cube f z =
+      let a = accessOf (s .table) n id in
+      zero-unwritten a (wholeRegion a) (paintedElements image pixels k (a .layout .precision)) (s .buffer) _ (paint-as-edit a image k pixels (length (s .buffer))) c h w cube z f
 
   zero-run : (s : State) (calls : List Call) → InCube (s .table .layout) c h w → Unwritten s calls c h w → Zeroed (s .table .layout) (s .buffer) c h w
       → Zeroed (runTo s calls .table .layout) (runTo s calls .buffer) c h w

@@ -1,5 +1,5 @@
--- A read through one region is undisturbed by a call through another: what an edit or a release through one region writes is no byte of another. By cases
--- on the call and on the two answers; a release is an edit of the whole region with zeros. Assumes nothing.
+-- A read through one region is undisturbed by a call through another: what an edit, a release or a painting through one region writes is no byte of
+-- another. By cases on the call and on the two answers. Assumes nothing.
 --     read-undisturbed     a read replies and gives the same before and after a call through another slot
 use Prim.Native.Nat.{ℕ, _+_, _<_}
 use native.Mathlib.Omega.{arith}
@@ -10,27 +10,32 @@ use lib.ListN.{length, getD}
 use lib.IntN.{ℤ}
 use Rattle.refusal.specs.declared.Answer.{Answer}
 use Rattle.refusal.specs.declared.Answer.the-variants.{Accepted, Refused}
+use Rattle.refusal.specs.Checks.{leaves}
 use Rattle.refusal.proofs.CheckLaws.{leaves-before}
 use Rattle.layout.specs.declared.CubeLayout.{CubeLayout}
 use Rattle.layout.specs.declared.ElementBox.{ElementBox}
 use Rattle.layout.specs.Geometry.{sizeOf, elementPosition}
+use Rattle.layout.specs.Boxes.{boxCount}
 use Rattle.layout.specs.Contents.{zerosOf}
 use Rattle.layout.proofs.BoxLaws.{InBox, boxHas-in, in-cube}
 use Rattle.regions.specs.declared.Rectangle.{Rectangle}
 use Rattle.regions.specs.declared.RegionTable.{RegionTable}
 use Rattle.regions.specs.Slots.{slotsOf}
 use Rattle.regions.specs.Rules.{accessOf, rectangleAt, cubeBox, regionBox, wholeRegion, slotChecks, regionBoxChecks, readChecks}
-use Rattle.regions.specs.Calls.{editAnswer, editBuffer, readAnswer, readElements}
+use Rattle.regions.specs.Calls.{editAnswer, editBuffer, readAnswer, readElements, releaseAnswer, releaseBuffer}
 use Rattle.regions.specs.Reads.{SameRead}
 use Rattle.regions.proofs.RuleLaws.{ValidBounds}
-use Rattle.regions.proofs.CallLaws.{read-accepted, edit-accepted, release-writes}
+use Rattle.regions.proofs.CallLaws.{read-accepted, edit-accepted}
 use Rattle.regions.proofs.ReadLaws.{same-elements}
 use Rattle.regions.proofs.OverlapLaws.{InRectangle, in-has}
-use Rattle.history.specs.Program.{Call, place, edit, read, release, none, State, step}
+use Rattle.parlour.specs.Components.{paintedElements}
+use Rattle.parlour.specs.Calls.{paintAnswer, paintBuffer}
+use Rattle.parlour.proofs.CallLaws.{paint-as-edit}
+use Rattle.history.specs.Program.{Call, place, edit, read, release, paint, none, State, step}
 use Rattle.history.specs.Writes.{slotOfCall}
 use Rattle.history.proofs.TableLaws.{slot-after, layout-after}
 use Rattle.history.proofs.Apart.{Apart, no-shared-byte}
-use Rattle.history.proofs.BufferLaws.{edit-names, edit-refused, length-after}
+use Rattle.history.proofs.BufferLaws.{AsEdit, written, written-names, release-as, length-after}
 
 -- ---- a read through another region
 in-rectangle : (q : CubeLayout) (g : Rectangle) (b : ElementBox) → ValidBounds q g b → (c h w : ℕ) → InBox (cubeBox g b) c h w → InRectangle g w h
@@ -53,16 +58,16 @@ module _ (s : State) (a : Apart (s .table .layout) (slotsOf (s .table))) (m id�
   abbrev accepted : Type 0
   accepted = readAnswer t m id′ b′ (length ys) (length (s .buffer)) ≡ Accepted
 
-  -- an element of its box, if it is accepted, keeps its bytes over an edit through another slot
-  edit-keeps : accepted → (n id : ℕ) → n ≢ m → (b : ElementBox) (xs : List ℤ) (v : Answer) → editAnswer t n id b xs (length (s .buffer)) ≡ v
+  -- an element of its box, if it is accepted, keeps its bytes over a call that writes through another slot
+  written-keeps : accepted → (n id : ℕ) → n ≢ m → (b : ElementBox) (xs : List ℤ) (v : Answer) → AsEdit (accessOf t n id) b xs (length (s .buffer)) v
       → (c h w k : ℕ) → InBox (regionBox (accessOf t m id′) b′) c h w → k < sizeOf q
-      → getD (editBuffer t n id b xs (s .buffer)) (elementPosition q c h w + k) 0 ≡ getD (s .buffer) (elementPosition q c h w + k) 0
-  unfolding editAnswer readAnswer
-  edit-keeps r n id d b xs Accepted e c h w k i hk =
+      → getD (written (accessOf t n id) b xs (s .buffer) v) (elementPosition q c h w + k) 0 ≡ getD (s .buffer) (elementPosition q c h w + k) 0
+  unfolding leaves readAnswer
+  written-keeps r n id d b xs Accepted e c h w k i hk =
       let slots = slotsOf t in
       let mine = read-accepted (accessOf t m id′) b′ (length ys) (length (s .buffer)) r .region in
-      let theirs = edit-accepted (accessOf t n id) b xs (length (s .buffer)) e .reads .region in
-      edit-names t n id b xs (s .buffer) (elementPosition q c h w + k)
+      let theirs = edit-accepted (accessOf t n id) b xs (length (s .buffer)) (e refl) .reads .region in
+      written-names (accessOf t n id) b xs (s .buffer) Accepted e (elementPosition q c h w + k)
       (λ c′ h′ w′ k′ i′ hk′ same.
       no-shared-byte q (mine .slot .layout) slots a m n (λ z. d (sym z)) id′ id (rectangleAt slots m) (rectangleAt slots n) (mine .slot .placed) (theirs .slot .placed) c h w k c′ h′ w′ k′
       (in-cube q (cubeBox (rectangleAt slots m) b′) c h w (mine .bounds .box) i .channel-lt)
@@ -72,18 +77,21 @@ module _ (s : State) (a : Apart (s .table .layout) (slotsOf (s .table))) (m id�
       (in-has (rectangleAt slots n) w′ h′ (in-rectangle q (rectangleAt slots n) b (theirs .bounds) c′ h′ w′ i′))
       hk′
       same)
-  edit-keeps r n id d b xs (Refused x j) e c h w k i hk = ap (λ (l : List ℕ). getD l (elementPosition q c h w + k) 0) (edit-refused t n id b xs (s .buffer) e)
+  written-keeps r n id d b xs (Refused x j) e c h w k i hk = refl
 
   -- and so over any call through another slot
   call-keeps : accepted → (call : Call) → slotOfCall call ≢ m → (c h w k : ℕ) → InBox (regionBox (accessOf t m id′) b′) c h w → k < sizeOf q
       → getD (step s call .state .buffer) (elementPosition q c h w + k) 0 ≡ getD (s .buffer) (elementPosition q c h w + k) 0
-  unfolding step slotOfCall
+  unfolding step slotOfCall editAnswer editBuffer releaseAnswer releaseBuffer paintAnswer paintBuffer boxCount
   call-keeps r (place n id g) d c h w k i hk = refl
-  call-keeps r (edit n id b xs) d c h w k i hk = edit-keeps r n id d b xs _ refl c h w k i hk
+  call-keeps r (edit n id b xs) d c h w k i hk = written-keeps r n id d b xs _ (λ ok. ok) c h w k i hk
   call-keeps r (read n id b xs) d c h w k i hk = refl
   call-keeps r (release n id) d c h w k i hk =
       let all = wholeRegion (accessOf t n id) in
-      ap (λ (l : List ℕ). getD l (elementPosition q c h w + k) 0) (release-writes t n id (s .buffer)) ∙ edit-keeps r n id d all (zerosOf all) _ refl c h w k i hk
+      written-keeps r n id d all (zerosOf all) _ (release-as (accessOf t n id) (length (s .buffer))) c h w k i hk
+  call-keeps r (paint n id image pixels conversion) d c h w k i hk =
+      let all = wholeRegion (accessOf t n id) in
+      written-keeps r n id d all (paintedElements image pixels conversion (q .precision)) _ (paint-as-edit (accessOf t n id) image conversion pixels (length (s .buffer))) c h w k i hk
 
   module _ (call : Call) (d : slotOfCall call ≢ m) where
     abbrev after : State

@@ -18,7 +18,7 @@ use Rattle.regions.specs.declared.RegionTable.{RegionTable}
 use Rattle.regions.specs.Slots.{Slot, empty, filled, slotOf, slotsOf}
 use Rattle.regions.specs.Rules.{slotAt}
 use Rattle.regions.specs.Calls.{noRegion, placedRegion, withSlot, placeAnswer, placeTable, releaseAnswer, releaseTable}
-use Rattle.history.specs.Program.{Call, place, edit, read, release, State, step}
+use Rattle.history.specs.Program.{Call, place, edit, read, release, paint, State, step}
 use Rattle.history.specs.Writes.{slotOfCall}
 
 -- ---- the table after a placing or a release
@@ -71,6 +71,7 @@ slot-after s (edit n id b xs) m d = refl
 slot-after s (read n id b xs) m d = refl
 slot-after s (release n id) m d =
     ap (λ (l : List Slot). slotAt l m) (released-slots (s .table) n id (length (s .buffer))) ∙ slot-other (slotsOf (s .table)) n m d empty (releaseAnswer (s .table) n id (length (s .buffer)))
+slot-after s (paint n id image pixels k) m d = refl
 
 -- the layout stays
 pub layout-after : (s : State) (c : Call) → step s c .state .table .layout ≡ s .table .layout
@@ -79,3 +80,4 @@ layout-after s (place n id g) = placed-layout (s .table) n id g
 layout-after s (edit n id b xs) = refl
 layout-after s (read n id b xs) = refl
 layout-after s (release n id) = released-layout (s .table) n id (length (s .buffer))
+layout-after s (paint n id image pixels k) = refl

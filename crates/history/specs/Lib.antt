@@ -2,3 +2,4 @@ pub mod Program
 pub mod Writes
 pub mod Model
 pub mod Example
+pub mod Paintings

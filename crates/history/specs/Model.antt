@@ -17,7 +17,9 @@ use Rattle.layout.specs.Contents.{zerosOf, elementsBy}
 use Rattle.layout.specs.Calls.{packBuffer}
 use Rattle.regions.specs.Slots.{Slot, empty, filled, emptySlots}
 use Rattle.regions.specs.Rules.{Access, access, regionBox, wholeRegion, placeChecks, readChecks, editChecks, releaseChecks}
-use Rattle.history.specs.Program.{Call, place, edit, read, release, none, Reply, Shown}
+use Rattle.parlour.specs.Components.{paintedElements}
+use Rattle.parlour.specs.Rules.{paintChecks}
+use Rattle.history.specs.Program.{Call, place, edit, read, release, paint, none, Reply, Shown}
 
 -- the raw tensor with elements written at a box, in raw order over the box
 unfoldable pub boxWritten : CubeLayout → ElementBox → List ℤ → List ℤ → List ℤ
@@ -60,8 +62,10 @@ module _ (q : CubeLayout) (len : ℕ) where
   plainAnswer s (edit n id b xs) = inOrder (editChecks (named s n id) b xs len)
   plainAnswer s (read n id b xs) = inOrder (readChecks (named s n id) b (length xs) len)
   plainAnswer s (release n id) = inOrder (releaseChecks (named s n id) len)
+  plainAnswer s (paint n id image pixels k) = inOrder (paintChecks (named s n id) image (k .shift) (length pixels) len)
 
-  -- one call: refused, it changes nothing; a release is an edit of zeros to the whole region, and empties the slot
+  -- one call: refused, it changes nothing; a release is an edit of zeros to the whole region, and empties the slot; a painting is an edit of the converted
+  -- components to the whole region
   unfoldable pub plainStep : Plain → Call → PlainStep
   plainStep s (place n id g) = let a = plainAnswer s (place n id g) in plainStepOf a [] (s .raw) (leaves a (set (s .slots) n (filled id g)) (s .slots))
   plainStep s (edit n id b xs) = let a = plainAnswer s (edit n id b xs) in plainStepOf a xs (leaves a (boxWritten q (regionBox (named s n id) b) xs (s .raw)) (s .raw)) (s .slots)
@@ -70,6 +74,10 @@ module _ (q : CubeLayout) (len : ℕ) where
       let a = plainAnswer s (release n id) in
       let box = regionBox (named s n id) (wholeRegion (named s n id)) in
       plainStepOf a [] (leaves a (boxWritten q box (zerosOf box) (s .raw)) (s .raw)) (leaves a (set (s .slots) n empty) (s .slots))
+  plainStep s (paint n id image pixels k) =
+      let a = plainAnswer s (paint n id image pixels k) in
+      let box = regionBox (named s n id) (wholeRegion (named s n id)) in
+      plainStepOf a [] (leaves a (boxWritten q box (paintedElements image pixels k (q .precision)) (s .raw)) (s .raw)) (s .slots)
 
   -- what the model gives after each call of a list
   unfoldable pub model : Plain → List Call → List PlainStep

@@ -1,5 +1,5 @@
--- A list of calls, and what the program does at each: the promises of `begin`, `place`, `edit`, `read` and `release` cite these steps, and the fold goes
--- from one to the next (scope paper, "The plain picture"; change request K1). Assumes nothing.
+-- A list of calls, and what the program does at each: the promises of `begin`, `place`, `edit`, `read`, `release` and `paint` cite these steps, and the
+-- fold goes from one to the next (scope paper, "The plain picture"; change requests K1, K3). Assumes nothing.
 use Prim.Native.Nat.{ℕ}
 use mathlib.Core.List.{List, [], _∷_}
 use lib.ListN.{length}
@@ -9,24 +9,30 @@ use Rattle.refusal.specs.declared.Answer.{Answer}
 use Rattle.layout.specs.declared.CubeLayout.{CubeLayout}
 use Rattle.layout.specs.declared.ElementBox.{ElementBox}
 use Rattle.layout.specs.Calls.{packAnswer, packBuffer}
+use Rattle.pixels.specs.declared.PixelSetting.{PixelSetting}
 use Rattle.regions.specs.declared.Rectangle.{Rectangle}
 use Rattle.regions.specs.declared.RegionTable.{RegionTable}
 use Rattle.regions.specs.Slots.{Slot, slotsOf}
 use Rattle.regions.specs.Calls.{emptyTable, placeAnswer, placeTable, editAnswer, editBuffer, readAnswer, readElements, releaseAnswer, releaseTable, releaseBuffer}
+use Rattle.parlour.specs.declared.Conversion.{Conversion}
+use Rattle.parlour.specs.Calls.{paintAnswer, paintBuffer}
 
--- a call with its arguments, save the table and the buffer: the slot, the owner's id, and what else it gives; the elements are those that the caller lends
+-- a call with its arguments, save the table and the buffer: the slot, the owner's id, and what else it gives; the elements, and the pixel buffer of a
+-- painting, are those that the caller lends
 pub data Call : Type 0 where
   place : (slot id : ℕ) → Rectangle → Call
   edit : (slot id : ℕ) → ElementBox → List ℤ → Call
   read : (slot id : ℕ) → ElementBox → List ℤ → Call
   release : (slot id : ℕ) → Call
+  paint : (slot id : ℕ) → PixelSetting → (pixels : List ℕ) → Conversion → Call
 
--- the elements that a call lends; placing and releasing lend none
+-- the elements that a call lends; placing, releasing and painting lend none
 unfoldable pub lends : Call → List ℤ
 lends (place n id g) = []
 lends (edit n id b xs) = xs
 lends (read n id b xs) = xs
 lends (release n id) = []
+lends (paint n id image pixels k) = []
 
 -- every call of a list lends such elements
 unfoldable pub LendsSixteenBit : List Call → Type 0
@@ -63,12 +69,14 @@ stepOf answer elements table buffer = record { reply = record { answer = answer;
 abbrev pub beginning : CubeLayout → List ℤ → List ℕ → Step
 beginning q raw before = stepOf (packAnswer q raw (length before)) raw (emptyTable q) (packBuffer q raw before)
 
--- one call; placing and releasing lend no elements
+-- one call; placing, releasing and painting lend no elements
 unfoldable pub step : State → Call → Step
 step s (place n id g) = stepOf (placeAnswer (s .table) n id g) [] (placeTable (s .table) n id g) (s .buffer)
 step s (edit n id b xs) = stepOf (editAnswer (s .table) n id b xs (length (s .buffer))) xs (s .table) (editBuffer (s .table) n id b xs (s .buffer))
 step s (read n id b xs) = stepOf (readAnswer (s .table) n id b (length xs) (length (s .buffer))) (readElements (s .table) n id b (s .buffer) xs) (s .table) (s .buffer)
 step s (release n id) = stepOf (releaseAnswer (s .table) n id (length (s .buffer))) [] (releaseTable (s .table) n id (length (s .buffer))) (releaseBuffer (s .table) n id (s .buffer))
+step s (paint n id image pixels k) =
+    stepOf (paintAnswer (s .table) n id image (length pixels) k (length (s .buffer))) [] (s .table) (paintBuffer (s .table) n id image pixels k (s .buffer))
 
 -- the program's state after a list of calls
 unfoldable pub runTo : State → List Call → State

@@ -11,7 +11,7 @@ use Rattle.layout.specs.declared.ElementBox.{ElementBox}
 use Rattle.layout.specs.Boxes.{boxHas, boxIndex}
 use Rattle.regions.specs.declared.RegionTable.{RegionTable}
 use Rattle.regions.specs.Rules.{accessOf, regionBox, wholeRegion}
-use Rattle.history.specs.Program.{Call, place, edit, read, release, State, step}
+use Rattle.history.specs.Program.{Call, place, edit, read, release, paint, State, step}
 
 -- the slot that a call names
 unfoldable pub slotOfCall : Call → ℕ
@@ -19,22 +19,29 @@ slotOfCall (place n id g) = n
 slotOfCall (edit n id b xs) = n
 slotOfCall (read n id b xs) = n
 slotOfCall (release n id) = n
+slotOfCall (paint n id image pixels k) = n
 
--- an edit names element (c, h, w) to be written: it is in its box
+-- element (c, h, w) is one of the region in a slot
+abbrev regionHas : RegionTable → (n id : ℕ) → ℕ → ℕ → ℕ → Bool
+regionHas t n id c h w = boxHas (regionBox (accessOf t n id) (wholeRegion (accessOf t n id))) c h w
+
+-- an edit names element (c, h, w) to be written: it is in its box; a painting is an edit of its whole region
 unfoldable pub editsElement : RegionTable → Call → ℕ → ℕ → ℕ → Bool
 editsElement t (place n id g) c h w = false
 editsElement t (edit n id b xs) c h w = boxHas (regionBox (accessOf t n id) b) c h w
 editsElement t (read n id b xs) c h w = false
 editsElement t (release n id) c h w = false
+editsElement t (paint n id image pixels k) c h w = regionHas t n id c h w
 
--- a call names element (c, h, w) to be written: an edit those of its box, a release those of the whole region, a placing and a read none
+-- a call names element (c, h, w) to be written: an edit those of its box, a release and a painting those of the whole region, a placing and a read none
 unfoldable pub writesElement : RegionTable → Call → ℕ → ℕ → ℕ → Bool
 writesElement t (place n id g) c h w = false
 writesElement t (edit n id b xs) c h w = boxHas (regionBox (accessOf t n id) b) c h w
 writesElement t (read n id b xs) c h w = false
-writesElement t (release n id) c h w = boxHas (regionBox (accessOf t n id) (wholeRegion (accessOf t n id))) c h w
+writesElement t (release n id) c h w = regionHas t n id c h w
+writesElement t (paint n id image pixels k) c h w = regionHas t n id c h w
 
--- from a state on, no accepted edit of a list writes element (c, h, w)
+-- from a state on, no accepted edit or painting of a list writes element (c, h, w)
 unfoldable pub Unwritten : State → List Call → (c h w : ℕ) → Type 0
 Unwritten s [] c h w = Unit {0}
 Unwritten s (call ∷ calls) c h w = (step s call .reply .answer ≡ Accepted → editsElement (s .table) call c h w ≡ false) × Unwritten (step s call .state) calls c h w
