@@ -1,10 +1,12 @@
-// The beginning of a list of calls, and one call of it: the calls of `cube` and `regions` themselves, whose promises are here the fold's steps
-// (history/specs/Program.antt). So the theorem about lists (history/proofs/Claims.antt) is about these calls (scope paper, "The plain picture"; change request K1).
+// The beginning of a list of calls, and one call of it: the calls of `cube`, `regions` and `parlour` themselves, whose promises are here the fold's steps
+// (history/specs/Program.antt). So the theorem about lists (history/proofs/Claims.antt) is about these calls (scope paper, "The plain picture"; change requests K1, K3).
 ghost use mathlib.Core.Path.{_≡_};
 ghost use mathlib.Core.List.{[]};
 ghost use Rattle.history.specs.Program.{stateOf, stepOf, beginning, step, Call};
 use layout::CubeLayout;
 use layout::ElementBox;
+use parlour::Conversion;
+use pixels::PixelSetting;
 use regions::Outcome;
 use regions::Rectangle;
 use regions::RegionTable;
@@ -67,4 +69,19 @@ pub fn release(table: RegionTable, slot: u32, id: u32, buffer: &mut [u8]) -> Out
     ensures { λ r. ⌜ stepOf (r .answer) [] (r .table) (now (buffer .exit)) ≡ step (stateOf table (now (buffer .entry))) (Call.release slot id) ⌝ }
 {
     regions_calls::release(table, slot, id, buffer)
+}
+
+// Paints a region from a camera's picture.
+pub fn paint(
+    table: RegionTable,
+    slot: u32,
+    id: u32,
+    image: PixelSetting,
+    pixels: &[u8],
+    conversion: Conversion,
+    buffer: &mut [u8],
+) -> Outcome
+    ensures { λ r. ⌜ stepOf (r .answer) [] (r .table) (now (buffer .exit)) ≡ step (stateOf table (now (buffer .entry))) (Call.paint slot id image (now (pixels .entry)) conversion) ⌝ }
+{
+    parlour_calls::paint(table, slot, id, image, pixels, conversion, buffer)
 }
