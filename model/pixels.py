@@ -62,6 +62,11 @@ def setting(p):
     return setting_code(p), 0, 0
 
 
+def pixel_position(p, x, y):
+    """Byte at which pixel (x, y) begins, the start included."""
+    return p.start + y * p.line + (x + p.offset) * FORMATS[p.format].bytes
+
+
 def position(p, x, y):
     """Position of pixel (x, y): (code, 0, byte with the start); order 19, 1, 20, 21, 22, 23."""
     code = setting_code(p)
@@ -69,4 +74,4 @@ def position(p, x, y):
         code = 23
     if code:
         return code, 0, 0
-    return 0, 0, p.start + y * p.line + (x + p.offset) * FORMATS[p.format].bytes
+    return 0, 0, pixel_position(p, x, y)

@@ -2,7 +2,7 @@
 
 Beside them stand inputs on which readings of "Cells and cubes", "Stalls",
 "Weights", "Pixels", "Two tables", "The sheet program", "Refusal numbers" and of
-change requests K1 and K2 part.
+change requests K1, K2 and K3 part.
 Prints nothing if all hold.
 """
 
@@ -16,6 +16,7 @@ from cube import (Box, CubeLayout, box_positions, element_position, extent, pack
                   read_box, surface_count, unpack, whole_box, write_box)
 from lut import (EXPONENTIAL, LINEAR, OVERFLOW, PRIORITY, S32_MAX, S32_MIN, UNDERFLOW, X_ONLY,
                  LutSettings, Slope, XSettings, YSettings, linear_value, look, run, run_code, x_value)
+from parlour import Conversion, paint
 from quantize import quantize
 from regions import (EMPTY_SLOTS, Rectangle, RegionTable, Slot, count, edit, empty_table, place, read, release,
                      share_position, with_slot)
@@ -288,6 +289,85 @@ def float_formats():
     assert pixels.setting(p._replace(format=4))[0] == 20
 
 
+def four_components():
+    """A picture of 2 by 2 pixels of T_A8B8G8R8 in a region at column 1, row 1 of a frame of four channels."""
+    q = CubeLayout(3, 3, 4, 0, 96, 288, 32)
+    table = by_hand(5, True, 1, 1, 2, 2, q=q)
+    first = bytes([0x01, 0x02, 0x03, 0x04, 0x05, 0x06, 0x07, 0x08])
+    second = bytes([0x09, 0x0A, 0x0B, 0x0C, 0x0D, 0x0E, 0x80, 0xFF])
+    p = pixels.PixelSetting(12, 2, 2, 4, 0, 1, 32, 64)
+    picture = bytes([238]) * 36 + first + bytes([238]) * 56 + second
+    assert pixels.position(p, 1, 1) == (0, 0, 32 + 64 + 8) and len(picture) == 32 + 64 + 12
+    after = bytearray([238]) * 320
+    for at, pixel in ((160, first[:4]), (192, first[4:]), (256, second[:4]), (288, bytes([0x0D, 0x0E, 0x7F, 0x7F]))):
+        after[at:at + 4] = pixel
+    assert paint(table, 5, 7, p, picture, Conversion(0, 1, 0), bytes([238]) * 320) == (0, 0, bytes(after))
+    # less 128 each, in two bytes: 1 is 81 ff, 255 is 7f 00
+    wide = q._replace(precision=1)
+    table = table._replace(layout=wide)
+    for at, pixel in ((160, first[:4]), (192, first[4:]), (256, second[:4]), (288, second[4:])):
+        after[at:at + 8] = b"".join((b - 128).to_bytes(2, "little", signed=True) for b in pixel)
+    assert after[160:168] == bytes([0x81, 0xFF, 0x82, 0xFF, 0x83, 0xFF, 0x84, 0xFF])
+    assert after[288:296] == bytes([0x8D, 0xFF, 0x8E, 0xFF, 0, 0, 0x7F, 0])
+    assert paint(table, 5, 7, p, picture, Conversion(128, 1, 0), bytes([238]) * 320) == (0, 0, bytes(after))
+
+
+def painted_bytes(code, stored, conversion, precision):
+    """The bytes of the element that a picture of one pixel of one component becomes."""
+    q = CubeLayout(1, 1, 1, precision, 32, 32, 0)
+    p = pixels.PixelSetting(code, 1, 1, 1, pixels.FORMATS[code].precision, 0, 0, 32)
+    refused, _, after = paint(by_hand(0, True, 0, 0, 1, 1, q=q), 0, 7, p, stored, Conversion(*conversion), bytes(32))
+    assert refused == 0 and not any(after[precision + 1:])
+    return after[:precision + 1]
+
+
+def one_component():
+    """T_R16_I alone is signed; T_R10 and T_R12 use their low bits; every other component is as its bytes say."""
+    assert painted_bytes(4, bytes([0xFE, 0xFF]), (0, 1, 0), 1) == bytes([0xFE, 0xFF])
+    assert painted_bytes(3, bytes([0xFE, 0xFF]), (0, 1, 0), 1) == bytes([0xFF, 0x7F])
+    # (-2 - 1) * 3 over 2 is -4.5, so -5; (65534 - 32767) over 2 is 16383.5, so 16383
+    assert painted_bytes(4, bytes([0xFE, 0xFF]), (1, 3, 1), 0) == bytes([0xFB])
+    assert painted_bytes(3, bytes([0xFE, 0xFF]), (32767, 1, 1), 1) == bytes([0xFF, 0x3F])
+    assert painted_bytes(2, bytes([0x34, 0xF6]), (0, 1, 0), 1) == bytes([0x34, 0x06])
+    assert painted_bytes(1, bytes([0x34, 0xF6]), (0, 1, 0), 1) == bytes([0x34, 0x02])
+    assert painted_bytes(3, bytes([0x34, 0x76]), (0, 1, 0), 1) == bytes([0x34, 0x76])
+    assert painted_bytes(0, bytes([0xFF]), (128, -1, 0), 0) == bytes([0x81])
+
+
+def painting_readings():
+    """The orders of K3, where readings part; T_R16 goes into int8, and is held."""
+    q = CubeLayout(2, 2, 1, 0, 64, 128, 0)
+    table, buffer, plain = by_hand(3, True, 0, 0, 1, 1, q=q), bytes(128), Conversion(0, 1, 0)
+    one = pixels.PixelSetting(0, 1, 1, 1, 0, 0, 0, 32)
+
+    def code(p=one, n=3, owner=7, given=1, k=plain, room=128, **changes):
+        """The answer with so many pixel bytes and bytes of room, and the layout changed."""
+        return paint(table._replace(layout=q._replace(**changes)), n, owner, p, bytes(given), k, bytes(room))[0]
+
+    assert code() == 0 and code(given=0) == 30
+    # the last pixel's end, not its line's: with start 64 and X offset 3, in the second row
+    assert code(one._replace(start=64, offset=3, height=2), given=64 + 32 + 4) == 9
+    assert code(one._replace(start=64, offset=3, height=2), given=64 + 32 + 3) == 30
+    assert code(channels=0) == 29 and code(channels=0, precision=2) == 29
+    assert code(width=0, precision=2) == 2 and code(width=0) == 1
+    assert code(precision=2, k=plain._replace(shift=32)) == 2 and code(given=0, k=plain._replace(shift=32)) == 16
+    assert code(line=33, given=0) == 30 and code(line=33) == 3 and code(start=8, n=2) == 4
+    for number, channels, precision in ((5, 1, 2), (8, 4, 2), (11, 4, 2)):
+        floats = one._replace(format=number, channels=channels, precision=precision)
+        assert code(floats, given=0, precision=2, channels=channels) == 29
+        assert code(floats._replace(precision=1), given=0) == 20
+    assert code(one._replace(format=12, channels=4), given=4) == 29
+    two = one._replace(width=2, height=2)
+    for room in (0, 127, 128):
+        assert code(two, owner=8, given=34, room=room) == 25 and code(two, given=34, room=room) == 9
+        assert code(two, n=4, owner=8, given=34, room=room) == 8
+    assert code(room=127) == 5 and code(one._replace(width=2), given=2, room=127) == 9
+    outside = by_hand(3, True, 1, 1, 2, 2, q=q)
+    assert paint(outside, 3, 7, two, bytes(34), plain, buffer) == (9, 0, buffer)
+    sixteen = one._replace(format=3, precision=1)
+    assert paint(table, 3, 7, sixteen, bytes([0x34, 0x12]), plain, buffer) == (0, 0, bytes([0x7F]) + bytes(127))
+
+
 def starred_lookups():
     """The starred lookup cases; neither the slope nor the step between entries is rounded first."""
     assert x_value(X_LINEAR, TENS, 6) == 15
@@ -380,6 +460,9 @@ if __name__ == "__main__":
     starred_conversions()
     pixel_settings()
     float_formats()
+    four_components()
+    one_component()
+    painting_readings()
     starred_lookups()
     lookup_readings()
     lookup_runs()
