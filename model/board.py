@@ -14,6 +14,7 @@ import bulk
 import camera
 import cube
 import lut
+import parlour
 import pixels
 import quantize
 import regions
@@ -145,6 +146,7 @@ COMMANDS = {
     "desk": ("n" * 7, {"desk"}, set()),
     "place": ("n" * 6, {"desk"}, {"desk"}),
     "release": ("n" * 2, {"buffer", "desk"}, PACKED | {"desk"}),
+    "paint": ("n" * 10 + "een", {"buffer"}, PACKED | {"desk"}),
     "hand slot": ("n" * 7, {"desk"}, {"desk"}),
     "hand layout": ("n" * 7, {"desk"}, {"desk"}),
     "pixel setting": ("n" * 8, set(), set()),
@@ -291,13 +293,24 @@ class Board:
         self.check_picture()
         return out
 
+    def on_paint(self, slot, owner, *given):
+        """`paint`: the pixel buffer is the low byte of each element."""
+        pixel_bytes = bytes(element % 256 for element in self.lists["elements"])
+        called = (slot, owner, pixels.PixelSetting(*given[:8]), pixel_bytes, parlour.Conversion(*given[8:]))
+        answer = parlour.paint(self.table, *called, self.lists["buffer"])
+        assert not self.picture or self.picture.paint(*called) == answer[:2]
+        self.packed = None
+        out = self.left(answer, "buffer")
+        self.check_picture()
+        return out
+
     def on_table(self, name, given):
         """`desk`, `place`, `hand slot`, `hand layout`."""
         code, index = 0, 0
         if name == "desk":
             q = cube.CubeLayout(*given)
             self.table = regions.empty_table(q)
-            self.picture = regions.PlainPicture(*self.packed) if self.packed and self.packed[0] == q else None
+            self.picture = parlour.PlainPicture(*self.packed) if self.packed and self.packed[0] == q else None
         elif name == "place":
             called = (*given[:2], regions.Rectangle(*given[2:]))
             code, index, self.table = regions.place(self.table, *called)
@@ -422,6 +435,8 @@ class Board:
             return self.on_box(name, *given)
         if name == "release":
             return self.on_release(*given)
+        if name == "paint":
+            return self.on_paint(*given)
         if name in ("desk", "place", "hand slot", "hand layout"):
             return self.on_table(name, given)
         if name == "ready":

@@ -10,6 +10,7 @@ from itertools import count, groupby
 import camera_cases
 import cube_cases
 import lut_cases
+import parlour_cases
 import pixels_cases
 import quantize_cases
 import regions_cases
@@ -70,7 +71,7 @@ def conversion_lines(t):
 # --- sessions ---
 
 def session_lines(t):
-    """A line of a session of placings, edits, reads and releases."""
+    """A line of a session of placings, edits, reads, releases and paintings."""
     if t.op == regions_cases.BEGIN:
         yield from element_lines(t)
         yield said("draw buffer", t.m, seed())
@@ -85,6 +86,11 @@ def session_lines(t):
         yield said("hand slot", *t[1:8])
     elif t.op == regions_cases.RELEASE:
         yield said("release", *t[1:3])
+    elif t.op == parlour_cases.PAINT:
+        yield from element_lines(t)
+        yield said("paint", *t[1:11], short(t.zero), short(t.scale), t.shift)
+    elif t.op == parlour_cases.LEND:
+        yield said("draw buffer", t.m, seed())
     elif t.op == regions_cases.POSITION:
         yield said("stall position", *t[1:6])
     elif t.op == regions_cases.COUNT:
@@ -190,6 +196,7 @@ def lines():
     """Every drawn case."""
     kinds = ((cube_cases, call_lines), (weights_cases, call_lines), (pixels_cases, call_lines),
              (quantize_cases, conversion_lines), (lut_cases, (lookups := Lookups()).lines),
-             (camera_cases, lookups.lines), (regions_cases, session_lines), (sheet_cases, sheet_lines))
+             (camera_cases, lookups.lines), (regions_cases, session_lines), (sheet_cases, sheet_lines),
+             (parlour_cases, session_lines))
     return ["# drawn cases", "print sums"] + [text for cases, said_of in kinds for t in cases.all_cases()
                                               for text in said_of(t)]
