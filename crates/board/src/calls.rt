@@ -64,17 +64,17 @@ fn rectangle_at(n: [u64; 16], k: usize) -> regions::Rectangle {
     }
 }
 
-// Numbers 0 to 7, `format width height channels precision offset start line`.
-fn pixel_setting(n: [u64; 16]) -> pixels::PixelSetting {
+// Numbers `format width height channels precision offset start line`, the first number k.
+pub fn pixel_setting(n: [u64; 16], k: usize) -> pixels::PixelSetting {
     pixels::PixelSetting {
-        format: natural(n, 0),
-        width: natural(n, 1),
-        height: natural(n, 2),
-        channels: natural(n, 3),
-        precision: natural(n, 4),
-        offset: natural(n, 5),
-        start: natural(n, 6),
-        line: natural(n, 7),
+        format: natural(n, k),
+        width: natural(n, wrapping_add_usize(k, 1)),
+        height: natural(n, wrapping_add_usize(k, 2)),
+        channels: natural(n, wrapping_add_usize(k, 3)),
+        precision: natural(n, wrapping_add_usize(k, 4)),
+        offset: natural(n, wrapping_add_usize(k, 5)),
+        start: natural(n, wrapping_add_usize(k, 6)),
+        line: natural(n, wrapping_add_usize(k, 7)),
     }
 }
 
@@ -121,7 +121,7 @@ pub fn call_apart(line: u64, command: u32, n: [u64; 16], table: RegionTable) -> 
     let outcome = match command {
         30 => regions_calls::place(table, natural(n, 0), natural(n, 1), rectangle_at(n, 2)),
         33 => Outcome {
-            answer: pixels_calls::setting(pixel_setting(n)),
+            answer: pixels_calls::setting(pixel_setting(n, 0)),
             table: table,
         },
         _ => Outcome {
@@ -135,7 +135,7 @@ pub fn call_apart(line: u64, command: u32, n: [u64; 16], table: RegionTable) -> 
     outcome.table
 }
 
-// The calls from 21 to 28, on elements and buffer, and `release`, on the buffer.
+// The calls from 21 to 28, on elements and buffer, `release`, on the buffer, and `paint`, on both.
 pub fn call(
     command: u32,
     n: [u64; 16],
@@ -165,6 +165,9 @@ pub fn call(
     }
     if command == 49 {
         return regions_calls::release(table, natural(n, 0), natural(n, 1), buffer);
+    }
+    if command == 52 {
+        return crate::paint::run(n, table, elements, buffer);
     }
     Outcome {
         answer: on_packed(command, n, elements, buffer),
@@ -261,7 +264,7 @@ pub fn print_value(line: u64, command: u32, n: [u64; 16]) {
         35 => print_quantity(line, layout_calls::extent(cube_layout(n))),
         36 => print_quantity(
             line,
-            pixels_calls::position(pixel_setting(n), natural(n, 8), natural(n, 9)),
+            pixels_calls::position(pixel_setting(n, 0), natural(n, 8), natural(n, 9)),
         ),
         37 => print_quantized(line, convert(n)),
         38 => print_quantized(line, Quantized::Value(camera::x_entry(natural(n, 0)))),

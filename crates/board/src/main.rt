@@ -6,6 +6,7 @@ mod line;
 mod lists;
 mod lookup;
 mod numbers;
+mod paint;
 mod print;
 mod sheet;
 mod state;
@@ -102,6 +103,14 @@ fn show(line: Line, elements: &[i16], buffer: &[u8], samples: &[i32]) {
     }
 }
 
+// The list that a call may change.
+fn left_by(command: u32) -> u32 {
+    match command {
+        21..=24 | 49 | 52 => 1,
+        _ => 0,
+    }
+}
+
 // A call on elements and buffer; prints its answer and what it left.
 fn call(state: State, elements: &mut [i16], buffer: &mut [u8], samples: &[i32]) -> State {
     let line = state.line;
@@ -111,12 +120,7 @@ fn call(state: State, elements: &mut [i16], buffer: &mut [u8], samples: &[i32]) 
     let answer = outcome.answer;
     let table = outcome.table;
     print::print_answer(line.number, answer);
-    let list = if line.command < 25 || line.command == 49 {
-        1
-    } else {
-        0
-    };
-    lists::tell_left(list, state.sums, elements, buffer, samples);
+    lists::tell_left(left_by(line.command), state.sums, elements, buffer, samples);
     let mut s = state;
     s.table = table;
     s
