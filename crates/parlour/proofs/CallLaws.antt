@@ -9,27 +9,26 @@ use Prim.Native.Nat.{ℕ, _+_, _*_, _≤_, _<_}
 use native.Mathlib.Omega.{arith}
 use native.Mathlib.Nat.{mul-le-mul-right}
 use mathlib.Core.Path.{_≡_, sym, ap, _∙_}
-use mathlib.Core.List.{List, []}
+use mathlib.Core.List.{List}
 use mathlib.Core.Logic.{_≢_}
 use lib.ListN.{length}
 use borrow.Author.Tests.{le-leb, eq-eqb}
 use Rattle.refusal.specs.declared.Answer.the-variants.{Accepted, Refused}
 use Rattle.refusal.specs.declared.Refusal.{Refusal}
 use Rattle.refusal.specs.declared.Refusal.the-variants.{ElementCount, BufferLength, OwnerId}
-use Rattle.refusal.specs.Checks.{inOrder, leaves}
-use Rattle.refusal.proofs.CheckLaws.{inOrder-nil, inOrder-next, inOrder-front, inOrder-back, inOrder-passed, leaves-done, leaves-before}
+use Rattle.refusal.specs.Checks.{inOrder}
+use Rattle.refusal.proofs.CheckLaws.{inOrder-next, inOrder-front, inOrder-back, inOrder-passed, leaves-done, leaves-before}
 use Rattle.layout.specs.declared.ElementBox.{ElementBox}
 use Rattle.layout.specs.Geometry.{cubeExtent}
 use Rattle.layout.specs.Boxes.{boxCount}
 use Rattle.layout.specs.Rules.{storageChecks}
-use Rattle.layout.specs.Contents.{edited}
 use Rattle.pixels.specs.declared.PixelSetting.{PixelSetting}
 use Rattle.pixels.specs.Formats.{formatOf}
 use Rattle.pixels.specs.Places.{InImage}
 use Rattle.pixels.specs.Settings.{pixelBytes, pixelPosition}
 use Rattle.pixels.proofs.Valid.{valid}
 use Rattle.regions.specs.declared.RegionTable.{RegionTable}
-use Rattle.regions.specs.Rules.{Access, accessOf, regionBox, wholeRegion, editChecks}
+use Rattle.regions.specs.Rules.{Access, accessOf, wholeRegion, editChecks}
 use Rattle.regions.specs.Calls.{editAnswer, editBuffer}
 use Rattle.regions.proofs.CallLaws.{others-denied}
 use Rattle.parlour.specs.declared.Conversion.{Conversion}

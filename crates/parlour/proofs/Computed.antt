@@ -2,7 +2,7 @@
 use Prim.Native.Nat.{ℕ}
 use mathlib.Core.Path.{_≡_, refl}
 use mathlib.Core.List.{List, [], _∷_, _++_, map}
-use lib.IntN.{ℤ, pos, negsuc}
+use lib.IntN.{ℤ, pos}
 use lib.ListN.{replicate}
 use Rattle.refusal.specs.Codes.{answerCode}
 use Rattle.refusal.specs.Checks.{requireAt, inOrder, leaves}

@@ -1,7 +1,8 @@
 -- Painting as the code does it: what was checked of picture and region, and that the box painted is the region edited. Assumes nothing.
---     target-told          a box that was found
---     paintable            the picture may be painted there
---     paint-refused .. paint-left     answer and buffer, refused and accepted
+--     same-elements                      a picture's elements, counted from the region's corner and from the cube's
+--     picture-refused, target-refused    picture or region refused
+--     paintable                          a picture that may be painted
+--     paint-answers, paint-leaves        the region painted
 use Prim.Native.Nat.{ℕ, _+_, _-_, _/_, _%_}
 use native.Mathlib.Omega.{arith}
 use mathlib.Core.Path.{_≡_, refl, sym, ap, subst⁻¹, _∙_}
@@ -11,37 +12,26 @@ use lib.IntN.{ℤ, pos}
 use Rattle.refusal.specs.declared.Answer.{Answer}
 use Rattle.refusal.specs.declared.Answer.the-variants.{Accepted, Refused}
 use Rattle.refusal.specs.declared.Refusal.{Refusal}
-use Rattle.refusal.specs.Checks.{inOrder, result}
+use Rattle.refusal.specs.Checks.{inOrder}
 use Rattle.refusal.proofs.CheckLaws.{inOrder-passed, inOrder-refused, leaves-done}
 use Rattle.elements.proofs.TabulateLaws.{tabulate-ext}
 use Rattle.layout.specs.declared.ElementBox.{ElementBox}
 use Rattle.layout.specs.Boxes.{boxCount, channelAt, rowAt, columnAt}
 use Rattle.layout.specs.Contents.{edited, elementsBy}
-use Rattle.layout.specs.Calls.{clearBoxAnswer}
 use Rattle.layout.proofs.CallLaws.{clear-valid}
 use Rattle.pixels.specs.declared.PixelSetting.{PixelSetting}
 use Rattle.regions.specs.declared.RegionTable.{RegionTable}
 use Rattle.regions.specs.declared.FoundBox.the-variants.{At, Refused as NotFound}
 use Rattle.regions.specs.Rules.{Access, accessOf, regionBox, wholeRegion}
 use Rattle.regions.proofs.CallLaws.{box-passes}
+use Rattle.regions_calls.proofs.StepLaws.{refused-of, at-of}
 use Rattle.parlour.specs.declared.Conversion.{Conversion}
-use Rattle.parlour.specs.Components.{component, converted, imageBox, paintedElements}
+use Rattle.parlour.specs.Components.{imageBox, paintedElements}
 use Rattle.parlour.specs.Rules.{pictureChecks, targetChecks, paintChecks}
 use Rattle.parlour.specs.Calls.{paintAnswer, paintBuffer}
 use Rattle.parlour.proofs.RuleLaws.{ValidPicture, picture-accepted, ValidTarget, target-accepted}
 use Rattle.parlour.proofs.CallLaws.{whole-image, paint-kept}
 use Rattle.parlour_calls.specs.Steps.{targetFound, Paintable, paintedAt, partPainted}
-
--- ---- a box that was found, or not
-refused-of : (v : Answer) (b : ElementBox) {r : Refusal} {i : ℕ} → result At NotFound v b ≡ NotFound r i → v ≡ Refused r i
-unfolding result
-refused-of Accepted b e = absurd (let z : _≡_ {A = ℕ} 0 1 = cc in omega arith)
-refused-of (Refused r i) b e = cc
-
-at-of : (v : Answer) (b : ElementBox) {box : ElementBox} → result At NotFound v b ≡ At box → (v ≡ Accepted) × (box ≡ b)
-unfolding result
-at-of Accepted b e = (refl, (cc))
-at-of (Refused r i) b e = absurd (let z : _≡_ {A = ℕ} 0 1 = cc in omega arith)
 
 -- ---- the elements, counted from the region's corner and from the cube's
 module _ (a : Access) (image : PixelSetting) (pixels : List ℕ) (k : Conversion) (p : ℕ) where

@@ -7,7 +7,6 @@ use Prim.Native.Nat.{ℕ, _+_, _-_, _*_, _/_, _≤_, _<_}
 use native.Mathlib.Omega.{arith}
 use native.Mathlib.Nat.{le-refl, mul-le-mul, mul-comm}
 use mathlib.Core.Path.{_≡_, refl, sym, ap, subst, subst⁻¹, _∙_}
-use mathlib.Core.Bool.{true}
 use mathlib.Core.List.{List}
 use lib.ListN.{length, getD, take}
 use lib.Seq.{length-take-le, getD-take}
@@ -25,16 +24,15 @@ use Rattle.layout.specs.declared.ElementBox.{ElementBox}
 use Rattle.layout.specs.Boxes.{boxIndex, boxCount, channelAt, rowAt, columnAt}
 use Rattle.layout.specs.Contents.{edited, elementsBy}
 use Rattle.layout.specs.Calls.{writeBoxAnswer, writeBoxBuffer}
-use Rattle.layout.proofs.Valid.{Valid}
 use Rattle.layout.proofs.BoxLaws.{InBox, BoxValid, valid-box}
 use Rattle.layout.proofs.CallLaws.{Admitted, box-layout, box-accepted, clear-front, clear-admitted, admit-valid, write-values}
 use Rattle.layout.proofs.ContentLaws.{edited-length}
-use Rattle.layout.proofs.JoinLaws.{Gives, by-gives, gives-list, strip, band, strip-valid, band-valid, columns-join, rows-join, no-columns, no-rows, strip-all, band-all, edited-join, edited-none}
+use Rattle.layout.proofs.JoinLaws.{Gives, by-gives, gives-list, band, strip-valid, band-valid, columns-join, rows-join, no-columns, no-rows, strip-all, band-all, edited-join, edited-none}
 use Rattle.pixels.specs.declared.PixelFormat.{PixelFormat}
 use Rattle.pixels.specs.declared.PixelSetting.{PixelSetting}
 use Rattle.pixels.specs.Formats.{formatOf}
 use Rattle.pixels.specs.Places.{ValidSetting}
-use Rattle.pixels.specs.Settings.{pixelBytes, pixelPosition}
+use Rattle.pixels.specs.Settings.{pixelPosition}
 use Rattle.pixels.proofs.Valid.{valid}
 use Rattle.parlour.specs.declared.Conversion.{Conversion}
 use Rattle.parlour.specs.Components.{componentBytes, componentAt, component, converted}

@@ -6,7 +6,8 @@
 --     row-fits, column-fits                 the corner of a box in a rectangle of a valid layout
 --     boxIn-region .. boxIn-at              a box in a rectangle, test after test
 --     foundBox-slot .. foundPart-in         a box in a region, and a part of it, test after test
---     found-refused, found-at               what it tells
+--     refused-of, at-of                     what a result tells
+--     found-refused, found-at               what a box found tells
 --     edit-refused, edit-found              an edit refused by 1 to 4, 8, 9, and past them
 --     read-refused, read-found              a read
 --     position-refused, position-found      a position refused, and given
@@ -114,12 +115,12 @@ module _ (q : CubeLayout) (g : Rectangle) (b : ElementBox) where
     boxIn-at e = rw (inside, e)
 
 -- ---- a box in a region
-refused-of : (a : Answer) (v : ElementBox) {r : Refusal} {i : ℕ} → result At NotFound a v ≡ NotFound r i → a ≡ Refused r i
+pub refused-of : (a : Answer) (v : ElementBox) {r : Refusal} {i : ℕ} → result At NotFound a v ≡ NotFound r i → a ≡ Refused r i
 unfolding result
 refused-of Accepted v e = absurd (let z : _≡_ {A = ℕ} 0 1 = cc in omega arith)
 refused-of (Refused r i) v e = cc
 
-at-of : (a : Answer) (v : ElementBox) {box : ElementBox} → result At NotFound a v ≡ At box → (a ≡ Accepted) × (box ≡ v)
+pub at-of : (a : Answer) (v : ElementBox) {box : ElementBox} → result At NotFound a v ≡ At box → (a ≡ Accepted) × (box ≡ v)
 unfolding result
 at-of Accepted v e = (refl, cc)
 at-of (Refused r i) v e = absurd (let z : _≡_ {A = ℕ} 0 1 = cc in omega arith)

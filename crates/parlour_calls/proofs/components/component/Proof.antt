@@ -1,14 +1,14 @@
 -- `parlour_calls::components::component` meets its contract: one byte as it is, or two, by the format. Assumes nothing.
-use Prim.Native.Nat.{ℕ, _+_, _*_, _%_, _<_}
+use Prim.Native.Nat.{ℕ, _+_, _*_, _<_}
 use native.Mathlib.Omega.{arith}
-use mathlib.Core.Path.{_≡_, sym, ap, _∙_}
+use mathlib.Core.Path.{_≡_, sym, _∙_}
 use lib.ListN.{getD}
 use borrow.Author.Needs.{needs, sfits-of}
 use mir.Syntax.{w16, w32}
 use mir.Val.{SFits}
 use mir.Facts.{toZ-pos, sfits-widen}
 use Rattle.general.proofs.Casts.{cast-fits, cast-value}
-use Rattle.parlour.specs.Components.{componentBytes, componentValue, componentAt}
+use Rattle.parlour.specs.Components.{componentValue, componentAt}
 use Rattle.parlour_calls.proofs.ComponentLaws.{component-one, component-two, value-ten, value-twelve, value-signed, value-plain}
 use Rattle.parlour_calls.proofs.components.component.Statement.{statement}
 use Rattle.parlour_calls.proofs.components.component.Tie as tie
