@@ -21,7 +21,7 @@
 
 /* The header's version; olsketina_version() gives the archive's. It grows with every change of a call, of its answers or of a word's
  * meaning. */
-#define OLSKETINA_VERSION 4
+#define OLSKETINA_VERSION 5
 
 /* A parameter that points to (at least) n elements; a result that must be looked at. */
 #ifdef __cplusplus
@@ -70,7 +70,9 @@ enum olsketina_refusal {
     OLSKETINA_REFUSED_PIXEL_STRIDES = 22,
     OLSKETINA_REFUSED_PIXEL_OUTSIDE = 23,
     OLSKETINA_REFUSED_SCRIPT_LINE = 24,
-    OLSKETINA_REFUSED_OWNER_ID = 25
+    OLSKETINA_REFUSED_OWNER_ID = 25,
+    OLSKETINA_REFUSED_IMAGE_KIND = 29,
+    OLSKETINA_REFUSED_PIXEL_LENGTH = 30
 };
 
 /* A refusal's plain sentence, for any number. */
@@ -86,7 +88,7 @@ static inline const char *olsketina_sentence(uint32_t refusal)
     case OLSKETINA_REFUSED_ELEMENT_COUNT: return "the number of elements is not exactly the one that is needed";
     case OLSKETINA_REFUSED_INT8_RANGE: return "an int8 element is outside -128 to 127";
     case OLSKETINA_REFUSED_SLOT: return "the slot is above 15, not placed, or already placed";
-    case OLSKETINA_REFUSED_BOUNDS: return "the box or the element is empty or outside";
+    case OLSKETINA_REFUSED_BOUNDS: return "the box or the element is empty or outside, or the image has not the size of the region";
     case OLSKETINA_REFUSED_OVERLAP: return "the region overlaps one that is placed";
     case OLSKETINA_REFUSED_TABLE_LENGTH: return "the X table has not 65 entries, or the Y table not 257";
     case OLSKETINA_REFUSED_X_SELECT: return "the select or offset of the X table is out of its range";
@@ -103,6 +105,8 @@ static inline const char *olsketina_sentence(uint32_t refusal)
     case OLSKETINA_REFUSED_PIXEL_OUTSIDE: return "the pixel is outside the image";
     case OLSKETINA_REFUSED_SCRIPT_LINE: return "a line cannot be read as a record, or a file cannot be opened, read or written";
     case OLSKETINA_REFUSED_OWNER_ID: return "the owner's id is not 1 to 65535, or not that of the region";
+    case OLSKETINA_REFUSED_IMAGE_KIND: return "the image is of an fp16 format, or has not the channels of the cube";
+    case OLSKETINA_REFUSED_PIXEL_LENGTH: return "the pixel buffer ends before the last pixel of the image does";
     default: return "no number of a refusal";
     }
 }
@@ -291,6 +295,19 @@ OLSKETINA_NODISCARD uint32_t olsketina_pixels_position(
  * Order: 2, 16. */
 OLSKETINA_NODISCARD uint32_t olsketina_quantize_convert(
     int32_t d, int16_t offset, int16_t scale, uint32_t shift, uint32_t precision, int16_t *value, size_t *fault);
+
+/* ---- a camera's picture into a region */
+
+/* Paints the owner's region in a slot from the pixels of an image: component n of pixel (x, y), converted to the cube's precision as by
+ * olsketina_quantize_convert, becomes the element of channel n, row y and column x of the region; no other byte is written. Components are numbered
+ * from the pixel's first byte on and are unsigned numbers of one or two bytes, the low one first; those of T_R16_I are signed, and T_R10 and T_R12
+ * have the low 10 or 12 bits. No fp16 format is taken, and no fp16 cube. The pixel buffer may end with the last pixel.
+ * Order: 19, 1, 20, 21, 22 of the image; 29; 2 of the cube's precision, 16; 30; 1, 3, 4 of the cube; 8, 25, 9 (the image has another width or height
+ * than the region, too), 5. */
+OLSKETINA_NODISCARD uint32_t olsketina_parlour_paint(
+    const uint32_t table[OLSKETINA_WORDS(OLSKETINA_TABLE_WORDS)], uint32_t slot, uint32_t id,
+    const uint32_t image[OLSKETINA_WORDS(OLSKETINA_IMAGE_WORDS)], const uint8_t *pixels, size_t pixels_len,
+    int16_t offset, int16_t scale, uint32_t shift, uint8_t *buffer, size_t buffer_len, size_t *fault);
 
 /* ---- two-table lookup */
 

@@ -2,11 +2,13 @@
 use Prim.Native.Nat.{ℕ, zero, suc, _+_}
 use mathlib.Core.List.{List}
 use lib.ListN.{getD, set}
+use lib.IntN.{ℤ}
 use Rattle.layout.specs.declared.CubeLayout.{CubeLayout}
 use Rattle.layout.specs.declared.ElementBox.{ElementBox}
 use Rattle.layout.specs.Geometry.{layoutOf}
 use Rattle.weights.specs.declared.WeightLayout.{WeightLayout}
 use Rattle.pixels.specs.declared.PixelSetting.{PixelSetting}
+use Rattle.parlour.specs.declared.Conversion.{Conversion}
 
 -- word i
 abbrev pub word : List ℕ → ℕ → ℕ
@@ -46,3 +48,7 @@ imageFrom l =
       start = word l 6;
       line = word l 7;
     }
+
+-- what every component is converted with; it passes by value
+abbrev pub conversionOf : (offset scale : ℤ) (shift : ℕ) → Conversion
+conversionOf offset scale shift = record { offset = offset; scale = scale; shift = shift }

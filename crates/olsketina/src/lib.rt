@@ -6,6 +6,7 @@ mod answers;
 pub mod cube_calls;
 pub mod lookup_calls;
 mod lut_words;
+pub mod paint_calls;
 pub mod pixel_calls;
 pub mod ready_calls;
 pub mod region_calls;
