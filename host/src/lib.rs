@@ -30,11 +30,13 @@
 
 mod cubes;
 mod lookup;
+mod paint;
 mod settings;
 mod sheet;
 
 pub use cubes::{ElementBox, Layout, Region, Table};
 pub use lookup::{camera, Choice, Counters, Lookup, Mode, Slope, TableSettings};
+pub use paint::Conversion;
 pub use settings::{convert, Image, Weights};
 pub use sheet::{header_text, Row, Sheet};
 

@@ -1,8 +1,8 @@
 //! The plain Rust loops that the benchmark sets beside the library: safe code that shares nothing with it. Settings and checks are the
 //! reference's; each function makes them first, in the paper's order, then runs its loops.
 
-use crate::reference::{cube, elements, lookup as plain_lookup, regions, weights};
-use olsketina::{Answer, Counters, ElementBox, Layout, Lookup, Mode, Slope, Table, TableSettings, Weights};
+use crate::reference::{cube, elements, lookup as plain_lookup, parlour, pixels, regions, weights};
+use olsketina::{Answer, Conversion, Counters, ElementBox, Image, Layout, Lookup, Mode, Slope, Table, TableSettings, Weights};
 use std::iter::repeat;
 use std::ops::Range;
 
@@ -88,6 +88,46 @@ pub fn release(table: &mut Table, slot: u32, id: u32, buffer: &mut [u8]) -> Answ
         write(layout.precision, buffer[atoms].chunks_exact_mut(ATOM), byte % ATOM, repeat(&0));
     });
     *table = regions::emptied(table, slot);
+    Ok(())
+}
+
+/// Component n of a pixel.
+fn component(format: u32, size: usize, pixel: &[u8], n: usize) -> i64 {
+    let number = if size == 1 { i64::from(pixel[n]) } else { i64::from(u16::from_le_bytes([pixel[2 * n], pixel[2 * n + 1]])) };
+    match format {
+        1 => number & 0x3ff,
+        2 => number & 0xfff,
+        4 => i64::from(number as i16),
+        _ => number,
+    }
+}
+
+/// Row by row, pixel by pixel, component by component; the channels of a picture fit into one atom.
+#[inline(never)]
+pub fn paint(table: &Table, slot: u32, id: u32, image: Image, conversion: Conversion, pixels: &[u8], buffer: &mut [u8]) -> Answer<()> {
+    let all = parlour::admitted(table, slot, id, image, conversion, pixels.len(), buffer.len())?;
+    let [[_, top, left], [channels, rows, columns]] = inside(all);
+    let layout = table.layout();
+    let Conversion { offset, scale, shift } = conversion;
+    let (low, high) = if layout.precision == 0 { (-128, 127) } else { (-32768, 32767) };
+    let bytes = pixels::checked(image)? as usize;
+    for y in 0..rows {
+        let line = &pixels[image.start as usize + y * image.line as usize..];
+        let atoms = layout.start as usize + (top + y) * layout.line as usize + left * ATOM;
+        for x in 0..columns {
+            let pixel = &line[(x + image.x_offset as usize) * bytes..][..bytes];
+            let atom = &mut buffer[atoms + x * ATOM..][..ATOM];
+            for n in 0..channels {
+                let d = component(image.format, bytes / channels, pixel, n);
+                let value = (((d - i64::from(offset)) * i64::from(scale)) >> shift).clamp(low, high);
+                if layout.precision == 0 {
+                    atom[n] = value as u8;
+                } else {
+                    atom[2 * n..2 * n + 2].copy_from_slice(&(value as i16).to_le_bytes());
+                }
+            }
+        }
+    }
     Ok(())
 }
 

@@ -7,7 +7,7 @@ use std::slice::from_ref;
 use std::time::Instant;
 
 use draw::Generator;
-use olsketina::{Answer, Counters, Layout, Lookup, Mode, Slope, Table, TableSettings, Weights};
+use olsketina::{Answer, Conversion, Counters, Layout, Lookup, Mode, Slope, Table, TableSettings, Weights};
 
 #[path = "../../tests/compare/draw.rs"]
 #[allow(dead_code)]
@@ -229,6 +229,26 @@ fn release(name: &str, words: [u32; 4]) -> Row {
     measure(name, 1001, cells, &[0], &vec![LEFT; bytes.len()], &lines(layout, [96, 80], bytes.len()), calls)
 }
 
+/// A picture of a format, painted into a region that is its whole cube, of a precision.
+fn paint(name: &str, repetitions: usize, [format, width, height, precision]: [u32; 4]) -> Row {
+    let [_, pixel, ..] = reference::pixels::format(format).expect("a format");
+    let image = draw::image(format, width, height, 0, 0, width * pixel);
+    let layout = draw::dense(width, height, image.channels, precision);
+    let mut table = Table::empty(layout);
+    table.place(SLOT, ID, [0, 0, width, height].into()).expect("accepted");
+    let conversion = Conversion { offset: 100, scale: 3, shift: 2 };
+    let pixels = Generator::new(SEED).bytes(draw::pixel_length(image));
+    let cells = draw::element_count(layout);
+    let calls = [Table::paint, loops::paint].map(|call| {
+        move |from: &[u8], to: &mut [u8]| {
+            call(black_box(&table), SLOT, ID, black_box(image), black_box(conversion), from, to).map(|()| [0; 5])
+        }
+    });
+    let (bytes, written) = (draw::buffer_length(layout), (image.channels * (1 + precision)) as usize);
+    let written: Vec<Range<usize>> = (0..bytes).step_by(32).map(|atom| atom..atom + written).collect();
+    measure(name, repetitions, cells, &pixels, &vec![LEFT; bytes], &written, calls)
+}
+
 /// Y of 256 steps of 16 from `y_start`; Priority X, OverflowPriority X, UnderflowPriority Y.
 fn settings(mode: Mode, select: i32, start: i32, end: i32, y_start: i32) -> Lookup {
     let slope = |scale, shift| Slope { scale, shift };
@@ -305,6 +325,10 @@ fn main() {
         edit("edit 64×64 over 32 channels int16", [640, 480, 32, 1]),
         release("release 64×64 over 32 channels int8", [640, 480, 32, 0]),
         release("release 64×64 over 32 channels int16", [640, 480, 32, 1]),
+        paint("paint 64×48 T_A8B8G8R8 into int8", 1001, [12, 64, 48, 0]),
+        at_most(1.2, RUST_LOOP, paint("paint 640×480 T_A8B8G8R8 into int8", 41, [12, 640, 480, 0])),
+        paint("paint 640×480 T_A16B16G16R16 into int16", 41, [6, 640, 480, 1]),
+        paint("paint 640×480 T_R8 into int8", 41, [0, 640, 480, 0]),
         at_most(9.0, MEMCPY, pack_weights("weights 256×256×3×3 int8", [256, 256, 3, 3, 0])),
         pack_weights("weights 256×256×1×1 int8", [256, 256, 1, 1, 0]),
         unpack_weights("unpack weights 256×256×3×3 int8", [256, 256, 3, 3, 0]),

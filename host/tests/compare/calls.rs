@@ -2,8 +2,8 @@
 
 use crate::both::{compare, same, Both};
 use crate::draw::{buffer_length, product, with_slot, Generator, EDGES, IDS};
-use crate::reference::{cube, pixels, regions, weights};
-use olsketina::{ElementBox, Image, Layout, Region, Table, Weights};
+use crate::reference::{cube, parlour, pixels, regions, weights};
+use olsketina::{Conversion, ElementBox, Image, Layout, Region, Table, Weights};
 
 /// A setting with positions, and all but an image's with elements and packed bytes.
 #[derive(Clone, Copy, Debug)]
@@ -136,6 +136,13 @@ impl Both {
         let left = self.lend("regions_release", old, case, release, |to| regions::release(&mut plain, slot, id, to));
         same("table", table.words(), plain.words(), case);
         left
+    }
+
+    /// Paints a region; gives the bytes afterwards.
+    pub fn paint(
+        &mut self, table: &Table, [slot, id]: [u32; 2], image: Image, conversion: Conversion, pixels: &[u8], old: &[u8],
+    ) -> Vec<u8> {
+        compare!(self, "parlour_paint", Table::paint, parlour::paint, table, slot, id, image, conversion; pixels, old)
     }
 
     pub fn write_and_read(&mut self, setting: Setting, elements: &[i16], bytes: &[u8]) {

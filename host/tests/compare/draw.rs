@@ -1,8 +1,8 @@
 //! A small generator of pseudorandom numbers, and the settings and lengths that the tests draw from it.
 
 use crate::reference::regions::{self, SLOT};
-use crate::reference::{cube, each};
-use olsketina::{ElementBox, Layout, Table};
+use crate::reference::{cube, each, pixels};
+use olsketina::{Conversion, ElementBox, Image, Layout, Table};
 
 /// Words at and beside the limits.
 #[rustfmt::skip]
@@ -16,6 +16,10 @@ pub const PRECISIONS: [u32; 7] = [0, 1, 2, 3, 4, 1 << 31, u32::MAX];
 
 /// Owners' ids, most of them valid.
 pub const IDS: [u32; 9] = [1, 2, 3, 40000, 65534, 65535, 0, 65536, u32::MAX];
+
+/// The formats that can be painted, and the others.
+pub const PAINTED: [u32; 14] = [0, 1, 2, 3, 4, 6, 7, 9, 10, 12, 13, 14, 15, 16];
+pub const FLOATS: [u32; 3] = [5, 8, 11];
 
 /// Numbers at and beside the int8 and int16 ranges.
 pub const OUTSIDE: [i16; 6] = [128, -129, i16::MAX, i16::MIN, 127, -128];
@@ -102,10 +106,35 @@ impl Generator {
         Layout { width, height, channels, precision, line, surface, start: gap() }
     }
 
+    /// How many channels a cube has: often as many as a picture.
+    pub fn channels(&mut self) -> u32 {
+        let any = self.among(1, 70);
+        self.pick(&[1, 4, any])
+    }
+
     /// A valid layout of a few columns, rows and channels.
     pub fn small_layout(&mut self) -> Layout {
         let [width, height, channels, precision] = [self.among(1, 12), self.among(1, 4), self.among(1, 40), self.among(0, 2)];
         self.layout(width, height, channels, precision)
+    }
+
+    /// A valid image: any X offset of its format; its lines may have gaps after them, and its start may not be 0.
+    pub fn image(&mut self, format: u32, width: u32, height: u32) -> Image {
+        let [_, bytes, _, greatest] = pixels::format(format).expect("a format");
+        let x_offset = self.among(0, greatest);
+        let mut gap = || 32 * self.pick(&[0, 0, 0, 1, 2, 5]);
+        let line = ((x_offset + width) * bytes).next_multiple_of(32) + gap();
+        image(format, width, height, x_offset, gap(), line)
+    }
+
+    /// A valid conversion: most often of 8 or 16 bits to about as many.
+    pub fn conversion(&mut self) -> Conversion {
+        let offset = self.pick(&[0, 128, 512, 2048, i16::MIN, i16::MAX]);
+        let conversion = Conversion { offset, scale: self.pick(&[1, 1, -1, 2, 3, 255]), shift: self.among(0, 9) };
+        if self.one_in(3) {
+            return Conversion { offset: self.word() as i16, scale: self.word() as i16, shift: self.among(0, 31) };
+        }
+        conversion
     }
 
     /// The setting; once in `odds` times with one to three words changed to limits, or to a little beside what they were.
@@ -180,6 +209,19 @@ pub fn dense(width: u32, height: u32, channels: u32, precision: u32) -> Layout {
 /// How long a buffer a cube needs: start plus extent. Of a layout that is not valid, its start.
 pub fn buffer_length(layout: Layout) -> usize {
     layout.start as usize + cube::extent(layout).unwrap_or(0) as usize
+}
+
+/// An image in its format's own words.
+pub fn image(format: u32, width: u32, height: u32, x_offset: u32, start: u32, line: u32) -> Image {
+    let [channels, _, precision, _] = pixels::format(format).expect("a format");
+    Image { format, width, height, channels, precision, x_offset, start, line }
+}
+
+/// How many bytes of pixels an image needs: up to the end of its last pixel. Of an image that is not valid, any number.
+pub fn pixel_length(image: Image) -> usize {
+    let [width, height, offset, start, line] = [image.width, image.height, image.x_offset, image.start, image.line].map(u64::from);
+    let [_, bytes, ..] = pixels::format(image.format).unwrap_or_default().map(u64::from);
+    (start + (height.max(1) - 1) * line + (offset + width) * bytes) as usize
 }
 
 pub fn product(sizes: &[u32]) -> usize {

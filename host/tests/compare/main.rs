@@ -11,6 +11,7 @@ mod reference;
 mod conversion;
 mod lookup;
 mod packed;
+mod paint;
 mod regions;
 mod settings;
 mod sheets;

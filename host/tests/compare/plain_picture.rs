@@ -1,8 +1,8 @@
 //! The plain picture: a raw tensor and sixteen slots, fed the calls of a list, never the packed bytes.
 
 use crate::draw::{buffer_length, product};
-use crate::reference::{cube, each, refuse, require};
-use olsketina::{Answer, ElementBox, Layout, Refusal, Region};
+use crate::reference::{cube, each, parlour, refuse, require};
+use olsketina::{Answer, Conversion, ElementBox, Image, Layout, Refusal, Region};
 
 /// Its layout is valid.
 pub struct PlainPicture {
@@ -93,5 +93,14 @@ impl PlainPicture {
         self.edit(slot, id, part, &vec![0; product(&sizes)], bytes)?;
         self.slots[slot as usize] = None;
         Ok(())
+    }
+
+    /// An edit of the whole region with the picture's components, converted.
+    pub fn paint(&mut self, slot: u32, id: u32, image: Image, conversion: Conversion, pixels: &[u8], bytes: usize) -> Answer<()> {
+        parlour::check_picture(self.layout, image, conversion, pixels.len())?;
+        let Region { columns, rows, .. } = self.region(slot, id)?;
+        require([image.width, image.height] == [columns, rows], 9)?;
+        let part = [0, 0, 0, self.layout.channels, rows, columns].into();
+        self.edit(slot, id, part, &parlour::elements(image, conversion, self.layout.precision, pixels), bytes)
     }
 }

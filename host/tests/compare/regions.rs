@@ -2,10 +2,10 @@
 
 use crate::both::{number, same, start, Both};
 use crate::calls::{Cube, Part, OWNER};
-use crate::draw::{buffer_length, element_count, product, with_slot, Generator, EDGES, IDS};
+use crate::draw::{buffer_length, element_count, pixel_length, product, with_slot, Generator, EDGES, FLOATS, IDS, PAINTED};
 use crate::plain_picture::PlainPicture;
-use crate::reference::each;
-use olsketina::{Answer, ElementBox, Layout, Region, Table};
+use crate::reference::{each, parlour};
+use olsketina::{Answer, Conversion, ElementBox, Image, Layout, Region, Table};
 
 /// A table and a buffer, alike on both sides after every call, and the cases compared. The plain picture, where there is one, is fed each call.
 struct Session {
@@ -90,6 +90,40 @@ impl Session {
         }
     }
 
+    /// Paints a region; whether that was accepted.
+    fn paint(&mut self, slot: u32, id: u32, image: Image, conversion: Conversion, pixels: &[u8]) -> bool {
+        let lent = &mut self.buffer[..self.lent];
+        lent.copy_from_slice(&self.both.paint(&self.table, [slot, id], image, conversion, pixels, lent));
+        self.beside("paint beside the plain picture", |picture, bytes| picture.paint(slot, id, image, conversion, pixels, bytes));
+        self.both.last.is_ok()
+    }
+
+    /// Paints a region with a picture that most often fits; then reads what it became.
+    fn any_picture(&mut self, g: &mut Generator, slot: u32, id: u32) {
+        let layout = self.table.layout();
+        let (_, Region { columns, rows, .. }) = self.table.region(slot).unwrap_or_default();
+        let format = match g.below(10) {
+            0 => g.pick(&PAINTED),
+            1 => g.pick(&FLOATS),
+            _ if layout.channels == 1 => g.pick(&PAINTED[..5]),
+            _ => g.pick(&PAINTED[5..]),
+        };
+        let [width, height] = [columns, rows].map(|size| if g.one_in(30) { g.among(1, 40) } else { size.clamp(1, 200) });
+        let image = g.image(format, width, height);
+        let exact = pixel_length(image);
+        let image = g.damaged(8, image);
+        let mut conversion = g.conversion();
+        g.damage(20, std::slice::from_mut(&mut conversion.shift));
+        let given = if g.one_in(8) { g.length_near(exact) } else { exact };
+        let pixels = g.bytes(given);
+        if self.paint(slot, id, image, conversion, &pixels) {
+            let part = [0, 0, 0, layout.channels, rows, columns].into();
+            let elements = parlour::elements(image, conversion, layout.precision, &pixels);
+            let old = g.any_elements(elements.len());
+            assert_eq!(self.read(slot, id, part, &old), elements, "read after paint: slot {slot} {image:?}");
+        }
+    }
+
     /// The id that a call on a slot gives: most often the owner's.
     fn any_id(&mut self, g: &mut Generator, slot: u32) -> u32 {
         let (owner, _) = self.table.region(slot).unwrap_or((g.pick(&IDS), Region::default()));
@@ -104,7 +138,7 @@ impl Session {
     fn any_call(&mut self, g: &mut Generator) {
         let layout = self.table.layout();
         let placed: Vec<u32> = (0..16).filter(|&slot| self.table.region(slot).is_some()).collect();
-        let call = g.below(12);
+        let call = g.below(15);
         let slot = match g.below(16) {
             0 => g.pick(&[16, 17, 1 << 31, u32::MAX]),
             1..=3 => g.among(0, 15),
@@ -120,7 +154,7 @@ impl Session {
             return;
         }
         let id = self.any_id(g, slot);
-        // A byte short, a buffer refuses edits, reads and releases, and nothing else.
+        // A byte short, a buffer refuses edits, reads, releases and paintings, and nothing else.
         let short = self.picture.is_some() && g.one_in(20);
         self.lent = if short { buffer_length(layout) - 1 } else { self.buffer.len() };
         let (_, Region { columns, rows, .. }) = self.table.region(slot).unwrap_or_default();
@@ -141,13 +175,14 @@ impl Session {
             7..=8 => drop(self.read(slot, id, part, &old)),
             9 => self.both.position(Part(self.table, slot, id, part), &[part.channel, part.row, part.column]),
             10 => self.both.check(Part(self.table, slot, id, part)),
+            11..=13 => self.any_picture(g, slot, id),
             _ => self.next_owner(g, slot, id, part, &old),
         }
     }
 }
 
 /// What the calls of a list answer.
-const LISTS: &str = "regions_count: 0 1 2 3 4 8 9 25; regions_edit: 0 1 2 3 4 5 6 7 8 9 25; regions_place: 0 1 2 3 4 8 9 10 25; \
+const LISTS: &str = "parlour_paint: 0 1 2 3 4 5 8 9 16 19 20 21 22 25 29 30; regions_count: 0 1 2 3 4 8 9 25; regions_edit: 0 1 2 3 4 5 6 7 8 9 25; regions_place: 0 1 2 3 4 8 9 10 25; \
     regions_position: 0 1 2 3 4 8 9 25; regions_read: 0 1 2 3 4 5 6 8 9 25; regions_release: 0 1 2 3 4 5 8 9 25";
 
 #[test]
@@ -155,7 +190,7 @@ fn lists_of_calls() {
     let (mut g, mut session) = session(20);
     for round in 0..5500 {
         let width = if round % 25 == 0 { g.among(120, 200) } else { g.among(1, 100) };
-        let [height, channels, precision] = [g.among(1, 5), g.among(1, 70), g.among(0, 2)];
+        let [height, channels, precision] = [g.among(1, 5), g.channels(), g.among(0, 2)];
         let layout = g.layout(width, height, channels, precision);
         let exact = buffer_length(layout);
         let length = if round % 10 == 0 { g.length_near(exact) } else { exact };
@@ -178,14 +213,16 @@ fn lists_of_calls() {
 fn lists_of_calls_beside_the_plain_picture() {
     let (mut g, mut session) = session(30);
     for _ in 0..4200 {
-        let [width, height, channels, precision] = [g.among(1, 40), g.among(1, 5), g.among(1, 70), g.among(0, 2)];
+        let [width, height, channels, precision] = [g.among(1, 40), g.among(1, 5), g.channels(), g.among(0, 2)];
         let layout = g.layout(width, height, channels, precision);
         let longer = g.pick(&[0, 1, 40]);
         session.pack(layout, g.elements(precision, element_count(layout)), g.bytes(buffer_length(layout) + longer));
         (0..40).for_each(|_| session.any_call(&mut g));
     }
     session.both.expect(
-        "cube_pack: 0; edit beside the plain picture: 0 5 6 7 8 9 25; place beside the plain picture: 0 8 9 10 25; \
+        "cube_pack: 0; edit beside the plain picture: 0 5 6 7 8 9 25; \
+         paint beside the plain picture: 0 1 2 5 8 9 16 19 20 21 22 25 29 30; parlour_paint: 0 1 2 5 8 9 16 19 20 21 22 25 29 30; \
+         place beside the plain picture: 0 8 9 10 25; \
          read beside the plain picture: 0 5 6 8 9 25; regions_count: 0 8 25; regions_edit: 0 5 6 7 8 9 25; \
          regions_place: 0 8 9 10 25; regions_position: 0 8 9 25; regions_read: 0 5 6 8 9 25; regions_release: 0 5 8 25; \
          release beside the plain picture: 0 5 8 25",
@@ -196,7 +233,7 @@ fn lists_of_calls_beside_the_plain_picture() {
 fn tables_of_any_words() {
     let (mut g, mut session) = session(21);
     for _ in 0..15000 {
-        let layout = g.small_layout();
+        let layout = Layout { channels: g.channels(), ..g.small_layout() };
         let length = g.length_near(buffer_length(layout));
         session.set(g.any_table(layout, 5), g.bytes(length));
         (0..12).for_each(|_| session.any_call(&mut g));

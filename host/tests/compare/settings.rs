@@ -2,9 +2,9 @@
 
 use crate::both::{start, Both};
 use crate::calls::{in_cube_by, Cube, Kernels, Pixels, Setting, BOXES, WEIGHTS};
-use crate::draw::{each_pair, whole, Generator, EDGES, PRECISIONS};
+use crate::draw::{each_pair, image, whole, Generator, EDGES, PRECISIONS};
 use crate::reference::{each, pixels};
-use olsketina::{Image, Layout};
+use olsketina::Layout;
 
 impl Both {
     /// The calls on a layout, of a box at and beside its limits too.
@@ -37,12 +37,6 @@ impl Both {
 /// All that the calls answer.
 const LAYOUTS: &str = "cube_position: 0 1 2 3 4 9; layout_check: 0 1 2 3 4; layout_extent: 0 1 2 3 4";
 const IMAGES: &str = "pixels_position: 0 1 19 20 21 22 23; pixels_setting: 0 1 19 20 21 22";
-
-/// An image in the format's own words.
-fn image(code: u32, width: u32, height: u32, x_offset: u32, start: u32, line: u32) -> Image {
-    let [channels, _, precision, _] = pixels::format(code).expect("a format");
-    Image { format: code, width, height, channels, precision, x_offset, start, line }
-}
 
 #[test]
 fn limits_of_every_word_and_pair_of_words() {

@@ -1,7 +1,8 @@
 //! The scope paper's worked cases, its sheet and the change requests' cases, through the library alone.
 
 use olsketina::{
-    camera, convert, header_text, Answer, Choice, Counters, Image, Layout, Lookup, Mode, Refusal, Sheet, Slope, TableSettings, Weights,
+    camera, convert, header_text, Answer, Choice, Conversion, Counters, Image, Layout, Lookup, Mode, Refusal, Sheet, Slope, Table,
+    TableSettings, Weights,
 };
 
 fn refused<T>(number: u32) -> Answer<T> {
@@ -92,6 +93,57 @@ fn images() {
 #[test]
 fn conversions() {
     assert_eq!([convert(100, 128, 3, 2, 0), convert(100, 128, 3, 2, 1), convert(255, 0, 1, 0, 0)], [Ok(-21), Ok(-21), Ok(127)]);
+}
+
+/// A picture of 2×2 of T_A8B8G8R8, X offset 1, into the stall of two columns and rows from (1, 1) of a frame of 4×3, channels 4, int8.
+#[test]
+fn picture() {
+    let frame = Layout::from([4, 3, 4, 0, 128, 384, 0]);
+    let mut desk = Table::empty(frame);
+    assert_eq!(desk.place(2, 7, [1, 1, 2, 2].into()), Ok(()));
+    let image = Image::from([12, 2, 2, 4, 0, 1, 32, 32]);
+    let mut pixels = [9; 76];
+    pixels[36..44].copy_from_slice(&[0, 1, 127, 128, 129, 255, 100, 200]);
+    pixels[68..76].copy_from_slice(&[10, 20, 30, 40, 50, 60, 70, 80]);
+    let mut buffer = [0xee; 384];
+    let middle = Conversion { offset: 128, scale: 1, shift: 0 };
+    assert_eq!(desk.paint(2, 7, image, middle, &pixels, &mut buffer), Ok(()));
+    let mut expected = [0xee; 384];
+    expected[160..164].copy_from_slice(&[0x80, 0x81, 0xff, 0x00]);
+    expected[192..196].copy_from_slice(&[0x01, 0x7f, 0xe4, 0x48]);
+    expected[288..292].copy_from_slice(&[0x8a, 0x94, 0x9e, 0xa8]);
+    expected[320..324].copy_from_slice(&[0xb2, 0xbc, 0xc6, 0xd0]);
+    assert_eq!(buffer, expected);
+    assert_eq!(desk.paint(2, 7, image, middle, &pixels[..75], &mut buffer), refused(30));
+    assert_eq!(desk.paint(2, 7, Image { format: 8, precision: 2, line: 64, ..image }, middle, &pixels, &mut buffer), refused(29));
+    assert_eq!(desk.paint(2, 8, image, middle, &pixels, &mut buffer), refused(25));
+    assert_eq!(desk.paint(2, 7, Image { width: 1, ..image }, middle, &pixels, &mut buffer), refused(9));
+    assert_eq!(desk.paint(2, 7, image, middle, &pixels, &mut buffer[..383]), refused(5));
+    assert_eq!(buffer, expected);
+}
+
+/// One pixel into a frame of one cell of int16, or of int8.
+#[test]
+fn pixels_of_one_component() {
+    let painted = |precision, format, pixel: [u8; 2], [offset, scale, shift]: [i16; 3]| {
+        let mut desk = Table::empty([1, 1, 1, precision, 32, 32, 0].into());
+        let mut buffer = [0xee; 32];
+        assert_eq!(desk.place(0, 1, [0, 0, 1, 1].into()), Ok(()));
+        let conversion = Conversion { offset, scale, shift: shift as u32 };
+        assert_eq!(desk.paint(0, 1, [format, 1, 1, 1, 1, 0, 0, 32].into(), conversion, &pixel, &mut buffer), Ok(()));
+        assert_eq!(buffer[2..], [0xee; 30]);
+        [buffer[0], buffer[1]]
+    };
+    // T_R16_I: FE FF is -2; over 4 that is -1, rounded down. As T_R16 it is 65534, held to 32767.
+    assert_eq!(painted(1, 4, [0xfe, 0xff], [0, 1, 0]), [0xfe, 0xff]);
+    assert_eq!(painted(1, 4, [0xfe, 0xff], [0, 1, 2]), [0xff, 0xff]);
+    assert_eq!(painted(1, 3, [0xfe, 0xff], [0, 1, 0]), [0xff, 0x7f]);
+    // T_R12: of F7 A5 the low twelve bits are 5F7, T_R10 has 1F7.
+    assert_eq!(painted(1, 2, [0xf7, 0xa5], [0, 1, 0]), [0xf7, 0x05]);
+    assert_eq!(painted(1, 1, [0xf7, 0xa5], [0, 1, 0]), [0xf7, 0x01]);
+    // T_R16 into int8: 300 is held to 127, 300 - 428 = -128 is not.
+    assert_eq!(painted(0, 3, [0x2c, 0x01], [0, 1, 0]), [0x7f, 0xee]);
+    assert_eq!(painted(0, 3, [0x2c, 0x01], [428, 1, 0]), [0x80, 0xee]);
 }
 
 #[test]

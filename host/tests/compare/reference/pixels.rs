@@ -19,7 +19,7 @@ pub fn format(code: u32) -> Option<[u32; 4]> {
 }
 
 /// The bytes of a pixel, once the setting is checked.
-fn checked(image: Image) -> Answer<i128> {
+pub fn checked(image: Image) -> Answer<i128> {
     let Some([channels, bytes, precision, greatest]) = format(image.format) else { return refuse(Refusal::PIXEL_FORMAT) };
     let size = |size| (1..=8192).contains(&size);
     require(size(image.width) && size(image.height), Refusal::SIZE)?;

@@ -62,7 +62,7 @@ pub struct InCube {
 }
 
 /// The cube, and all of the owner's region, once 1 to 4, 8, 25 and 9 are checked.
-fn whole(table: &Table, slot: u32, id: u32) -> Answer<InCube> {
+pub fn whole(table: &Table, slot: u32, id: u32) -> Answer<InCube> {
     let (layout, regions) = parts(table);
     let cube = checked(layout)?;
     let Some(&Some((owner, region))) = regions.get(slot as usize) else { return refuse(Refusal::SLOT) };
