@@ -1,4 +1,4 @@
-//! A camera's picture into a region: every format and component, widths around the lengths in which a row may be cut, and the order of the checks.
+//! A camera's picture into a region: every format and component, every width up to 600, and the order of the checks.
 
 use crate::both::{number, start, Both};
 use crate::calls::OWNER;
@@ -32,7 +32,8 @@ fn shorter(g: &mut Generator, exact: usize) -> usize {
 }
 
 impl Painting {
-    /// Of a format that is taken, one that is accepted: the region lies anywhere in its cube, with any id in any slot; what is lent may be longer than it must be.
+    /// One that is accepted, if format and precision are: the region lies anywhere in its cube, with any id in any slot; what is lent may be
+    /// longer than it must be.
     fn valid(g: &mut Generator, format: u32, width: u32, height: u32, precision: u32) -> Painting {
         let image = g.image(format, width, height);
         let [left, right, top, below] = [g.among(0, 20), g.among(0, 3), g.among(0, 2), g.among(0, 1)];
@@ -43,7 +44,7 @@ impl Painting {
         Painting { layout, region, slot, id, image, conversion: g.conversion(), pixels, bytes }
     }
 
-    /// Breaks a rule of the order, and none before it; those after it may have been broken before.
+    /// Breaks a rule, by its index in the order, and none before it; those after it may have been broken before.
     fn break_rule(&mut self, g: &mut Generator, rule: usize) {
         let (layout, image, region) = (&mut self.layout, &mut self.image, &mut self.region);
         let far = g.pick(&[0, 8193, 1 << 31, u32::MAX]);
@@ -185,8 +186,8 @@ fn damaged_paintings() {
     both.expect(PAINT);
 }
 
-/// The readings that the request's words leave to a reader, each with its answer: a frame, its stall and the id that is given, an image, how many
-/// bytes of pixels and of the cube.
+/// The readings that the request's words leave to a reader: a frame, its stall, the id that is given, an image, how many bytes of pixels and of
+/// the cube, the answer.
 #[test]
 fn readings() {
     let (mut g, mut both) = start(85);

@@ -22,7 +22,7 @@ pub fn check_picture(layout: Layout, image: Image, conversion: Conversion, given
     require(last + bytes <= given as i128, Refusal::PIXEL_LENGTH)
 }
 
-/// All of the owner's region, once everything is checked: after the picture 1 to 4, 8, 25, 9, also of a picture that is not as wide and high, and 5.
+/// All of the owner's region, once everything is checked: the picture, then 1 to 4, 8, 25, 9 (also of an image that is not as wide and high), 5.
 pub fn admitted(table: &Table, slot: u32, id: u32, image: Image, conversion: Conversion, given: usize, bytes: usize) -> Answer<InCube> {
     check_picture(table.layout(), image, conversion, given)?;
     let all = whole(table, slot, id)?;
