@@ -1,17 +1,20 @@
 -- A component as the code reads it from its bytes, test after test. Assumes nothing.
 --     component-one, component-two         one byte, and two
 --     value-ten .. value-plain             the number that two bytes are, by the format
-use Prim.Native.Nat.{ℕ, _+_, _*_, _%_}
+--     level-is                             a component of one byte, looked up
+use Prim.Native.Nat.{ℕ, _+_, _*_, _%_, _<_}
 use native.Mathlib.Omega.{arith}
-use mathlib.Core.Path.{_≡_, refl, ap, _∙_}
+use mathlib.Core.Path.{_≡_, refl, sym, ap, _∙_}
 use mathlib.Core.List.{List}
 use lib.ListN.{getD}
-use lib.IntN.{pos}
+use lib.IntN.{ℤ, pos}
 use borrow.Author.Tests.{ne-eqb}
 use Rattle.elements.specs.Bytes.{wordAt, signed}
 use Rattle.elements.proofs.WordLaws.{wordAt-one, wordAt-two}
 use Rattle.pixels.specs.Formats.{formatTable, formatIn, formatOf}
-use Rattle.parlour.specs.Components.{componentBytes, componentValue, componentAt}
+use Rattle.parlour.specs.declared.Conversion.{Conversion}
+use Rattle.parlour.specs.Components.{componentBytes, componentValue, componentAt, converted}
+use Rattle.parlour_calls.specs.Steps.{Levels}
 
 module _ (code n : ℕ) where
   pub value-ten : code ≡ 1 → componentValue code n ≡ pos (n % 1024)
@@ -49,3 +52,8 @@ module _ (code : ℕ) (pixels : List ℕ) (p : ℕ) where
   pub component-two : componentBytes code ≡ 2 → componentAt code pixels p ≡ componentValue code (getD pixels p 0 + 256 * getD pixels (p + 1) 0)
   unfolding componentAt
   component-two two = ap (λ (e : ℕ). componentValue code (wordAt e pixels p)) two ∙ ap (componentValue code) (wordAt-two pixels p)
+
+-- a component of one byte, looked up
+pub level-is : (code : ℕ) (k : Conversion) (precision : ℕ) (levels : List ℤ) (pixels : List ℕ) (p : ℕ) → Levels k precision levels → componentBytes code ≡ 1 → getD pixels p 0 < 256
+    → getD levels (getD pixels p 0) (pos 0) ≡ converted k precision (componentAt code pixels p)
+level-is code k precision levels pixels p told one small = told .1 (getD pixels p 0) small ∙ ap (converted k precision) (sym (component-one code pixels p one))

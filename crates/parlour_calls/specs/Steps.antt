@@ -1,8 +1,9 @@
 -- What the private functions of this crate find and leave. Their contracts cite these; no public promise rests on them. Assumes nothing.
-use Prim.Native.Nat.{ℕ, _+_, _-_, _*_}
+use Prim.Native.Nat.{ℕ, _+_, _-_, _*_, _<_}
 use mathlib.Core.Path.{_≡_}
 use mathlib.Core.List.{List}
-use lib.IntN.{ℤ}
+use lib.ListN.{length, getD}
+use lib.IntN.{ℤ, pos}
 use Rattle.refusal.specs.declared.Answer.the-variants.{Accepted}
 use Rattle.refusal.specs.Checks.{inOrder, result}
 use Rattle.layout.specs.declared.CubeLayout.{CubeLayout}
@@ -20,6 +21,10 @@ use Rattle.parlour.specs.Rules.{pictureChecks, targetChecks}
 -- the box of the cube that is painted, or refused by 1 to 4, 8, 25, 9, 5
 unfoldable pub targetFound : Access → PixelSetting → (len : ℕ) → FoundBox
 targetFound a image len = result At Refused (inOrder (targetChecks a image len)) (regionBox a (wholeRegion a))
+
+-- a table that has for each byte what it is converted to
+abbrev pub Levels : Conversion → (precision : ℕ) → List ℤ → Type 0
+Levels k precision l = (length l ≡ 256) × ((n : ℕ) → n < 256 → getD l n (pos 0) ≡ converted k precision (pos n))
 
 -- component i of those that begin `step` bytes apart, converted
 unfoldable pub runElement : (code : ℕ) → Conversion → (precision : ℕ) → List ℕ → (at step i : ℕ) → ℤ

@@ -7,7 +7,7 @@ ghost use Rattle.refusal.specs.Checks.{inOrder};
 ghost use Rattle.columns.specs.Columns.{columns, bytesSet};
 ghost use Rattle.quantize.specs.Quantize.{quantizeChecks};
 ghost use Rattle.parlour.specs.Components.{componentBytes, componentAt, converted};
-ghost use Rattle.parlour_calls.specs.Steps.{runElement, stripElement};
+ghost use Rattle.parlour_calls.specs.Steps.{Levels, runElement, stripElement};
 use parlour::Conversion;
 use quantize::Quantized;
 
@@ -43,12 +43,27 @@ fn convert(d: i32, k: Conversion, precision: u32) -> i16
     }
 }
 
-// One component of `count` pixels that begin `step` bytes apart, converted, from element `from` on.
+// What each byte is converted to.
+pub(crate) fn levels(k: Conversion, precision: u32) -> [i16; 256]
+    requires { ⌜ inOrder (quantizeChecks precision (k .shift)) ≡ Accepted ⌝ }
+    ensures { λ r. ⌜ Levels k precision r ⌝ }
+{
+    let mut table = [0i16; 256];
+    let mut n: usize = 0;
+    while n < 256 {
+        table[n] = convert(n as i32, k, precision);
+        n += 1;
+    }
+    table
+}
+
+// One component of `count` pixels that begin `step` bytes apart, converted, from element `from` on; one of a byte is looked up.
 fn convert_run(
     code: u32,
     size: u32,
     k: Conversion,
     precision: u32,
+    levels: &[i16; 256],
     pixels: &[u8],
     at: usize,
     step: usize,
@@ -58,12 +73,18 @@ fn convert_run(
 )
     requires { ⌜ (size ≡ componentBytes code) × (1 ≤ size) × (size ≤ 2) × (inOrder (quantizeChecks precision (k .shift)) ≡ Accepted) ⌝ }
     requires { ⌜ (at + step * count + size ≤ length (now pixels) + step) × (from + count ≤ 1024) × (length (now tile) ≡ 1024) ⌝ }
+    requires { ⌜ Levels k precision (now levels) ⌝ }
     ensures { λ _. ⌜ now (tile .exit) ≡ bytesSet (runElement code k precision (now (pixels .entry)) at step) count from (now (tile .entry)) ⌝ }
 {
     let mut i: usize = 0;
     while i < count {
-        let d = component(code, size, pixels, at + step * i);
-        tile[from + i] = convert(d, k, precision);
+        let p = at + step * i;
+        let x = if size == 1 {
+            levels[pixels[p] as usize]
+        } else {
+            convert(component(code, size, pixels, p), k, precision)
+        };
+        tile[from + i] = x;
         i += 1;
     }
 }
@@ -75,11 +96,13 @@ pub(crate) fn convert_strip(
     channels: u32,
     k: Conversion,
     precision: u32,
+    levels: &[i16; 256],
     pixels: &[u8],
     at: usize,
     count: usize,
     tile: &mut [i16; 1024],
 )
+    requires { ⌜ Levels k precision (now levels) ⌝ }
     requires { ⌜ (size ≡ componentBytes code) × (1 ≤ size) × (size ≤ 2) × (inOrder (quantizeChecks precision (k .shift)) ≡ Accepted) ⌝ }
     requires { ⌜ (1 ≤ count) × (at + channels * size * count ≤ length (now pixels)) × (channels * count ≤ 1024) × (length (now tile) ≡ 1024) ⌝ }
     ensures { λ _. ⌜ now (tile .exit) ≡ columns (stripElement code size channels k precision (now (pixels .entry)) at) count channels 0 count (now (tile .entry)) ⌝ }
@@ -92,6 +115,7 @@ pub(crate) fn convert_strip(
             size,
             k,
             precision,
+            levels,
             pixels,
             at + n as usize * size as usize,
             step,

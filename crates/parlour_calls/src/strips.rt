@@ -4,7 +4,7 @@ ghost use Prim.Native.Nat.{_+_, _≤_, _<_};
 ghost use lib.ListN.{length};
 ghost use Rattle.refusal.specs.declared.Answer.the-variants.{Accepted};
 ghost use Rattle.pixels.specs.Settings.{settingAnswer, pixelPosition};
-ghost use Rattle.parlour_calls.specs.Steps.{Paintable, rowOf, stripOf, partPainted};
+ghost use Rattle.parlour_calls.specs.Steps.{Levels, Paintable, rowOf, stripOf, partPainted};
 use crate::components;
 use layout::CubeLayout;
 use layout::ElementBox;
@@ -33,9 +33,11 @@ fn paint_strip(
     count: u32,
     pixels: &[u8],
     k: Conversion,
+    levels: &[i16; 256],
     buffer: &mut [u8],
 )
     requires { ⌜ Paintable layout b image (k .shift) (length (now pixels)) (length (now buffer)) ⌝ }
+    requires { ⌜ Levels k (layout .precision) (now levels) ⌝ }
     requires { ⌜ (y < image .height) × (1 ≤ count) × (count ≤ 256) × (x + count ≤ image .width) ⌝ }
     ensures { λ _. ⌜ now (buffer .exit) ≡ partPainted layout b (stripOf b x y count) image (now (pixels .entry)) k (now (buffer .entry)) ⌝ }
 {
@@ -48,6 +50,7 @@ fn paint_strip(
         format.channels,
         k,
         layout.precision,
+        levels,
         pixels,
         at,
         count as usize,
@@ -73,9 +76,11 @@ fn paint_row(
     y: u32,
     pixels: &[u8],
     k: Conversion,
+    levels: &[i16; 256],
     buffer: &mut [u8],
 )
     requires { ⌜ Paintable layout b image (k .shift) (length (now pixels)) (length (now buffer)) ⌝ }
+    requires { ⌜ Levels k (layout .precision) (now levels) ⌝ }
     requires { ⌜ y < image .height ⌝ }
     ensures { λ _. ⌜ now (buffer .exit) ≡ partPainted layout b (rowOf b y) image (now (pixels .entry)) k (now (buffer .entry)) ⌝ }
 {
@@ -84,7 +89,7 @@ fn paint_row(
     while x < width {
         let left = width - x;
         let count = if left < 256 { left } else { 256 };
-        paint_strip(layout, b, image, x, y, count, pixels, k, buffer);
+        paint_strip(layout, b, image, x, y, count, pixels, k, levels, buffer);
         x += count;
     }
 }
@@ -101,10 +106,11 @@ pub(crate) fn paint_rows(
     requires { ⌜ Paintable layout b image (k .shift) (length (now pixels)) (length (now buffer)) ⌝ }
     ensures { λ _. ⌜ now (buffer .exit) ≡ partPainted layout b b image (now (pixels .entry)) k (now (buffer .entry)) ⌝ }
 {
+    let levels = components::levels(k, layout.precision);
     let height = image.height;
     let mut y: u32 = 0;
     while y < height {
-        paint_row(layout, b, image, y, pixels, k, buffer);
+        paint_row(layout, b, image, y, pixels, k, &levels, buffer);
         y += 1;
     }
 }

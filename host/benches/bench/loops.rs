@@ -102,6 +102,21 @@ fn component(format: u32, size: usize, pixel: &[u8], n: usize) -> i64 {
     }
 }
 
+/// Four components of a byte into int8: the loop for this format alone.
+fn paint_bytes(lines: impl Iterator<Item = (usize, usize)>, columns: usize, conversion: Conversion, pixels: &[u8], buffer: &mut [u8]) {
+    let Conversion { offset, scale, shift } = conversion;
+    for (from, to) in lines {
+        for x in 0..columns {
+            let pixel = &pixels[from + 4 * x..][..4];
+            let atom = &mut buffer[to + ATOM * x..][..ATOM];
+            for n in 0..4 {
+                let value = ((i64::from(pixel[n]) - i64::from(offset)) * i64::from(scale)) >> shift;
+                atom[n] = value.clamp(-128, 127) as u8;
+            }
+        }
+    }
+}
+
 /// Row by row, pixel by pixel, component by component; the channels of a picture fit into one atom.
 #[inline(never)]
 pub fn paint(table: &Table, slot: u32, id: u32, image: Image, conversion: Conversion, pixels: &[u8], buffer: &mut [u8]) -> Answer<()> {
@@ -111,6 +126,14 @@ pub fn paint(table: &Table, slot: u32, id: u32, image: Image, conversion: Conver
     let Conversion { offset, scale, shift } = conversion;
     let (low, high) = if layout.precision == 0 { (-128, 127) } else { (-32768, 32767) };
     let bytes = pixels::checked(image)? as usize;
+    if (bytes, channels, layout.precision) == (4, 4, 0) {
+        let lines = (0..rows).map(|y| {
+            let from = image.start as usize + y * image.line as usize + image.x_offset as usize * bytes;
+            (from, layout.start as usize + (top + y) * layout.line as usize + left * ATOM)
+        });
+        paint_bytes(lines, columns, conversion, pixels, buffer);
+        return Ok(());
+    }
     for y in 0..rows {
         let line = &pixels[image.start as usize + y * image.line as usize..];
         let atoms = layout.start as usize + (top + y) * layout.line as usize + left * ATOM;

@@ -12,11 +12,11 @@ use Rattle.parlour_calls.proofs.components.convert_strip.Statement.{sta
 use Rattle.parlour_calls.proofs.components.convert_strip.Tie as tie
 
 abbrev Inv-loop : tie.InvT-loop
-Inv-loop code size channels k precision pixels at count tile₀ step n₀ tile n =
+Inv-loop code size channels k precision levels pixels at count tile₀ step n₀ tile n =
     (n ≤ channels) × (tile ≡ columns (stripElement code size channels k precision pixels at) count n 0 count tile₀)
 
 abbrev μ-loop : tie.MeasureT-loop
-μ-loop code size channels k precision pixels at count tile₀ step n₀ tile n = channels - n
+μ-loop code size channels k precision levels pixels at count tile₀ step n₀ tile n = channels - n
 
 -- the tile keeps its length
 long : (c : tie.At-loop Inv-loop μ-loop) → length (c .loop .tile) ≡ 1024
@@ -25,11 +25,11 @@ long c =
     let a = s .args in
     ap length (c .loop .inv .1)
     ∙ columns-length (stripElement (a .code) (a .size) (a .channels) (a .k) (a .precision) (a .pixels .now) (a .at)) (a .count) (c .loop .n) 0 (a .count) (a .tile .now)
-    ∙ s .pre .1 .3
+    ∙ s .pre .1 .1 .3
 
 -- a pixel is in the buffer
 step-le : (s : tie.Start Inv-loop μ-loop) → s .args .channels * s .args .size ≤ length (s .args .pixels .now)
-step-le s = let a = s .args in omega (arith, within (a .channels * a .size) (a .count) (s .pre .1 .0), s .pre .1 .1)
+step-le s = let a = s .args in omega (arith, within (a .channels * a .size) (a .count) (s .pre .1 .1 .0), s .pre .1 .1 .1)
 
 -- component n is in it
 size-le : (c : tie.In-loop Inv-loop μ-loop) → let a = c .before .before .before .args in c .before .loop .n * a .size + a .size ≤ a .channels * a .size
@@ -39,7 +39,7 @@ at-le : (c : tie.In-loop Inv-loop μ-loop) → let a = c .before .before .before
 at-le c =
     let s = c .before .before .before in
     let a = s .args in
-    omega (arith, size-le c, within (a .channels * a .size) (a .count) (s .pre .1 .0), s .pre .1 .1)
+    omega (arith, size-le c, within (a .channels * a .size) (a .count) (s .pre .1 .1 .0), s .pre .1 .1 .1)
 
 -- and its run in the tile
 run-le : (c : tie.In-loop Inv-loop μ-loop) → let a = c .before .before .before .args in a .count * c .before .loop .n + a .count ≤ 1024
@@ -48,7 +48,7 @@ run-le c =
     let a = s .args in
     let n = c .before .loop .n in
     let same : a .count * n ≡ n * a .count = mul-comm (a .count) n in
-    omega (arith, same, below n (a .channels) (a .count) (omega arith), s .pre .1 .2)
+    omega (arith, same, below n (a .channels) (a .count) (omega arith), s .pre .1 .1 .2)
 
 mul-step : tie.Need-mul-step Inv-loop μ-loop
 mul-step c = omega (arith, step-le (c .before))
@@ -75,7 +75,7 @@ mul-convert-run-2 c = omega (arith, run-le (c .before))
 convert-run-requires : tie.Need-convert-run-requires Inv-loop μ-loop
 convert-run-requires c κs = let i = c .before in
     let s = i .before .before .before in
-    (s .pre .0, (omega (arith, size-le i, s .pre .1 .1), run-le i, long (i .before)))
+    (s .pre .1 .0, ((omega (arith, size-le i, s .pre .1 .1 .1), run-le i, long (i .before)), s .pre .0))
 
 add-n : tie.Need-add-n Inv-loop μ-loop
 add-n c = omega arith

@@ -10,10 +10,10 @@ use Rattle.parlour_calls.proofs.strips.paint_row.Statement.{statement}
 use Rattle.parlour_calls.proofs.strips.paint_row.Tie as tie
 
 abbrev Inv-loop : tie.InvT-loop
-Inv-loop layout b image y pixels k buffer₀ width x₀ buffer x = (x ≤ image .width) × (buffer ≡ partPainted layout b (stripOf b 0 y x) image pixels k buffer₀)
+Inv-loop layout b image y pixels k levels buffer₀ width x₀ buffer x = (x ≤ image .width) × (buffer ≡ partPainted layout b (stripOf b 0 y x) image pixels k buffer₀)
 
 abbrev μ-loop : tie.MeasureT-loop
-μ-loop layout b image y pixels k buffer₀ width x₀ buffer x = image .width - x
+μ-loop layout b image y pixels k levels buffer₀ width x₀ buffer x = image .width - x
 
 -- the buffer is as long as before
 long : (l : tie.At-loop Inv-loop μ-loop) → length (l .loop .buffer) ≡ length (l .before .before .before .args .buffer .now)
@@ -46,7 +46,7 @@ paint-strip-requires c κs = let j = c .before in
     let s = l .before .before .before in
     let a = s .args in
     let n = next j in
-    (subst⁻¹ (λ (m : ℕ). Paintable (a .layout) (a .b) (a .image) (a .k .shift) (length (a .pixels .now)) m) (long l) (s .pre .0), (s .pre .1, n .some, n .narrow, n .fit))
+    (subst⁻¹ (λ (m : ℕ). Paintable (a .layout) (a .b) (a .image) (a .k .shift) (length (a .pixels .now)) m) (long l) (s .pre .0), (s .pre .1 .0, (s .pre .1 .1, n .some, n .narrow, n .fit)))
 
 add-x : tie.Need-add-x Inv-loop μ-loop
 add-x c = let j = c .before .before .before .before .before in

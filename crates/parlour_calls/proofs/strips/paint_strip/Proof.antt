@@ -31,13 +31,13 @@ size-is c = ap (λ (f : PixelFormat). f .bytes / f .channels) (c .format .ensure
 -- the elements fit the tile
 count-le : (c : tie.After-format) → c .format .result .channels * start c .args .count ≤ 1024
 count-le c = let s = start c in
-    subst⁻¹ (λ (n : ℕ). n * s .args .count ≤ 1024) (channels-is c) (strip-fits (s .args .image .format) (s .args .count) (told s .components) (s .pre .1 .2))
+    subst⁻¹ (λ (n : ℕ). n * s .args .count ≤ 1024) (channels-is c) (strip-fits (s .args .image .format) (s .args .count) (told s .components) (s .pre .1 .1 .2))
 
 format-requires : tie.Need-format-requires
 format-requires c κs = search needs
 
 pixel-at-requires : tie.Need-pixel-at-requires
-pixel-at-requires c κs = let s = start c in (told s .picture .setting, omega (arith, s .pre .1), s .pre .1 .0)
+pixel-at-requires c κs = let s = start c in (told s .picture .setting, omega (arith, s .pre .1 .1), s .pre .1 .1 .0)
 
 div-convert-strip : tie.Need-div-convert-strip
 div-convert-strip c = let f = c .before .before in omega (arith, channels-is f, told (start f) .some)
@@ -49,19 +49,22 @@ convert-strip-requires c κs =
     let s = start f in
     let a = s .args in
     let t = told s in (
-      (size-is f, subst⁻¹ (λ (n : ℕ). 1 ≤ n) (size-is f) (t .components .some), subst⁻¹ (λ (n : ℕ). n ≤ 2) (size-is f) (t .components .two), t .picture .conversion),
-      (s .pre .1 .1, strip-room (a .layout) (a .b) (a .image) (a .k .shift) (length (a .pixels .now)) (length (a .buffer .now)) (s .pre .0) (a .x) (a .y) (a .count) (s .pre .1 .0) (s .pre .1 .1) (s .pre .1 .3) (f .format .ensures) (p .pixel-at .ensures), count-le f, refl),
+      s .pre .1 .0,
+      (
+        (size-is f, subst⁻¹ (λ (n : ℕ). 1 ≤ n) (size-is f) (t .components .some), subst⁻¹ (λ (n : ℕ). n ≤ 2) (size-is f) (t .components .two), t .picture .conversion),
+        (s .pre .1 .1 .1, strip-room (a .layout) (a .b) (a .image) (a .k .shift) (length (a .pixels .now)) (length (a .buffer .now)) (s .pre .0) (a .x) (a .y) (a .count) (s .pre .1 .1 .0) (s .pre .1 .1 .1) (s .pre .1 .1 .3) (f .format .ensures) (p .pixel-at .ensures), count-le f, refl),
+      ),
     )
 
 add-n : tie.Need-add-n
 add-n c = let s = start (c .before .before .before .before .before) in
     let d = told s .box-in in
-    omega (arith, s .pre .1 .0, s .pre .0 .rows, d .inside .rows .fit, d .layout .height-le)
+    omega (arith, s .pre .1 .1 .0, s .pre .0 .rows, d .inside .rows .fit, d .layout .height-le)
 
-add-t20 : tie.Need-add-t20
-add-t20 c = let s = start (c .before .before .before .before .before .before) in
+add-t21 : tie.Need-add-t21
+add-t21 c = let s = start (c .before .before .before .before .before .before) in
     let d = told s .box-in in
-    omega (arith, s .pre .1 .3, s .pre .0 .columns, d .inside .columns .fit, d .layout .width-le)
+    omega (arith, s .pre .1 .1 .3, s .pre .0 .columns, d .inside .columns .fit, d .layout .width-le)
 
 mul-n : tie.Need-mul-n
 mul-n c = omega (arith, count-le (c .before .before .before .before .before .before .before))
@@ -92,7 +95,7 @@ returns c =
     let s = start f in
     let a = s .args in
     w .write-box .ensures .1
-    ∙ strip-written (a .layout) (a .b) (a .image) (a .pixels .now) (a .k) (length (a .buffer .now)) (s .pre .0) (a .x) (a .y) (a .count) (s .pre .1 .0) (s .pre .1 .1) (s .pre .1 .2) (s .pre .1 .3)
+    ∙ strip-written (a .layout) (a .b) (a .image) (a .pixels .now) (a .k) (length (a .buffer .now)) (s .pre .0) (a .x) (a .y) (a .count) (s .pre .1 .1 .0) (s .pre .1 .1 .1) (s .pre .1 .1 .2) (s .pre .1 .1 .3)
     (f .format .ensures) (p .pixel-at .ensures) _ _ refl (v .convert-strip .ensures) (a .buffer .now) refl
 
 pub paint-strip-spec : {M : Type 1} → statement M
@@ -104,7 +107,7 @@ paint-strip-spec =
     div-convert-strip
     convert-strip-requires
     add-n
-    add-t20
+    add-t21
     mul-n
     cast-n
     array-share-prefix-tile
