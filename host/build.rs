@@ -18,7 +18,7 @@ fn main() {
     let archives = repository.join("target/staticlib");
     println!("cargo:rustc-link-search=native={}", archives.display());
     let mut exports = Vec::new();
-    for path in signatures::crates(&repository) {
+    for path in signatures::linked(&repository, env::var_os("CARGO_FEATURE_COMPUTED_CURVE").is_some()) {
         let name = signatures::name_of(&path);
         let archive = archives.join(format!("lib{name}.a"));
         println!("cargo:rustc-link-lib=static={name}");

@@ -31,7 +31,7 @@ pub struct Function {
 }
 
 /// The exports of some sources: functions, and constants with the text of their values.
-#[derive(Default)]
+#[derive(Debug, Default, PartialEq)]
 pub struct Exports {
     pub functions: Vec<Function>,
     pub constants: Vec<(String, String)>,
@@ -45,10 +45,20 @@ fn entries(folder: &Path) -> Vec<PathBuf> {
     paths
 }
 
+/// The crates with the curve's exports, stored and computed: a program is linked with one of them.
+pub const CURVES: [&str; 2] = ["olsketina_curve", "olsketina_curve_computed"];
+
 /// The folders of the crates that are built for C, below the repository's folder.
 pub fn crates(repository: &Path) -> Vec<PathBuf> {
     let mut paths = entries(&repository.join("crates"));
     paths.retain(|path| name_of(path).starts_with("olsketina") && !exports_of(path).functions.is_empty());
+    paths
+}
+
+/// Those of them that a program is linked with, its curve computed or not.
+pub fn linked(repository: &Path, computed: bool) -> Vec<PathBuf> {
+    let mut paths = crates(repository);
+    paths.retain(|path| name_of(path) != CURVES[usize::from(!computed)]);
     paths
 }
 

@@ -1,8 +1,9 @@
 /* Olsketina: memory layouts of a small NVDLA accelerator, for C (from C11 on) and C++ (from C++17 on), on x86-64 Linux.
  *
- * Link libolsketina.a (`rt staticlib olsketina`), and for the camera curve libolsketina_curve.a (`rt staticlib olsketina_curve`). Numbers and
- * refusals are those of the scope paper and of the change requests that have landed (docs/changes); the promise of each call stands above it in
- * crates/olsketina/src/ and crates/olsketina_curve/src/.
+ * Link libolsketina.a (`rt staticlib olsketina`), and for the camera curve one of two archives: libolsketina_curve.a, which has its entries
+ * stored, or libolsketina_curve_computed.a, which computes them and is smaller (`rt staticlib olsketina_curve`, `olsketina_curve_computed`).
+ * Numbers and refusals are those of the scope paper and of the change requests that have landed (docs/changes); the promise of each call stands
+ * above it in crates/olsketina/src/, crates/olsketina_curve/src/ and crates/olsketina_curve_computed/src/.
  *
  * Memory. A slice passes as two arguments, pointer then length (in elements). No pointer may be null, also where its length is 0, and each is
  * aligned to its type. What a call lends for writing must not overlap anything else that it lends. Nothing is kept after a call returns, and
@@ -379,7 +380,7 @@ OLSKETINA_NODISCARD uint32_t olsketina_camera_ready_made(
     int16_t scales[OLSKETINA_WORDS(OLSKETINA_SLOPES)], int32_t shifts[OLSKETINA_WORDS(OLSKETINA_SLOPES)],
     uint32_t priorities[OLSKETINA_WORDS(OLSKETINA_PRIORITIES)], size_t *fault);
 
-/* ---- the camera curve (libolsketina_curve.a) */
+/* ---- the camera curve (libolsketina_curve.a, stored, or libolsketina_curve_computed.a: the same answers from either) */
 
 /* Entry i of the Y curve; past the last entry (256), the last.
  * Refuses nothing. */

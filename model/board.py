@@ -158,6 +158,8 @@ COMMANDS = {
     "convert": ("seenn", set(), set()),
     "curve x": ("n", set(), set()),
     "curve y": ("n", set(), set()),
+    "computed x": ("n", set(), set()),
+    "computed y": ("n", set(), set()),
     "x linear": ("ssseses", {"x"}, set()),
     "x exponential": ("ssseses", {"x"}, set()),
     "y": ("ssseses", {"y"}, set()),
@@ -357,7 +359,7 @@ class Board:
         elif name == "pixel position":
             answer = pixels.position(pixels.PixelSetting(*given[:8]), *given[8:])
         else:
-            answer = 0, 0, camera.entry(lut.X if name == "curve x" else lut.Y, given[0])
+            answer = 0, 0, camera.entry(lut.X if name.endswith(" x") else lut.Y, given[0])
         return [" ".join(map(str, answer))]
 
     # --- lookup ---

@@ -153,7 +153,8 @@ class Lookups:
         elif t.op == lut_cases.RUN:
             yield from self.run_lines(t)
         elif t.op == camera_cases.ENTRY:
-            yield said("curve x" if t.table == 0 else "curve y", t.index)
+            for build in ("curve", "computed"):
+                yield said(f"{build} x" if t.table == 0 else f"{build} y", t.index)
         else:
             yield from self.ready_lines(t)
 

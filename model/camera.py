@@ -1,8 +1,8 @@
 """The camera curve, its X companion, and the ready-made setting for both.
 
-Renders the last paragraph of the scope paper's section "Two tables", and of
-"Refusal numbers" the code 14 for the ready-made s. An index past a curve's end
-is the last one's; the paper leaves this free.
+Renders the last paragraph of the scope paper's section "Two tables", of
+"Refusal numbers" the code 14 for the ready-made s, and change request K4. An
+index past a curve's end is the last one's; the paper leaves this free.
 """
 
 from math import isqrt
@@ -21,6 +21,15 @@ def entry(table, index):
     """Entry of the X companion or, for Y, of the camera curve; past the end the last one."""
     curve = X_CURVE if table == X else Y_CURVE
     return curve[min(index, len(curve) - 1)]
+
+
+def estimates(n, e=65535):
+    """Change request K4's steps to the root of n, from e on while the estimate falls; n is not 0."""
+    steps = [e]
+    while (after := (e + n // e) // 2) < e:
+        e = after
+        steps.append(e)
+    return steps
 
 
 def bit(choice):

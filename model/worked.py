@@ -427,6 +427,16 @@ def starred_curves():
         assert camera.entry(table, count) == camera.entry(table, 4294967295) == entries[-1]
 
 
+def newton_steps():
+    """Change request K4: entry 2's steps as the page for pupils has them; every entry's steps end with it, each step below the one before."""
+    assert camera.estimates(2097152) == [65535, 32783, 16423, 8275, 4264, 2377, 1629, 1458, 1448]
+    for table, count, step in ((0, 65, 262144), (1, 257, 1048576)):
+        for i in range(1, count):
+            steps = camera.estimates(i * step)
+            assert steps[-1] == camera.entry(table, i) and steps == sorted(set(steps), reverse=True)
+    assert camera.estimates(268435456, 16383) == [16383]  # a start below the root
+
+
 def starred_ready_made():
     """The starred ready-made case; s outside 2 to 22 is 14; a bit left unnamed is 0."""
     code, _, q = camera.ready_made(4)
@@ -468,4 +478,5 @@ if __name__ == "__main__":
     lookup_runs()
     lookup_kinds()
     starred_curves()
+    newton_steps()
     starred_ready_made()

@@ -82,7 +82,7 @@ impl Choice {
     pub const UNNAMED: Choice = Choice(2);
 }
 
-/// The camera curve. Past the last entry an entry is the last.
+/// The camera curve, stored or (feature `computed-curve`) computed. Past the last entry an entry is the last.
 pub mod camera {
     use crate::{made, raw};
 

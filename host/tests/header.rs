@@ -5,7 +5,7 @@
 #[allow(dead_code)]
 mod signatures;
 
-use olsketina::{ElementBox, Image, Layout, Region, Weights};
+use olsketina::{camera, ElementBox, Image, Layout, Region, Weights};
 use signatures::{Exports, Function, Parameter, Shape};
 use std::path::{Path, PathBuf};
 use std::process::Command;
@@ -16,7 +16,11 @@ fn repository() -> PathBuf {
 }
 
 fn exports() -> Vec<Exports> {
-    signatures::crates(&repository()).iter().map(|path| signatures::exports_of(path)).collect()
+    signatures::linked(&repository(), cfg!(feature = "computed-curve")).iter().map(|path| signatures::exports_of(path)).collect()
+}
+
+fn archive(name: &str) -> PathBuf {
+    repository().join(format!("target/staticlib/lib{name}.a"))
 }
 
 fn header() -> String {
@@ -225,7 +229,7 @@ fn signatures_are_read() {
 fn the_archives_have_the_names_of_the_sources() {
     for path in signatures::crates(&repository()) {
         let name = signatures::name_of(&path);
-        let archive = repository().join(format!("target/staticlib/lib{name}.a"));
+        let archive = archive(&name);
         let output = Command::new("nm").args(["-g", "--defined-only"]).arg(&archive).output().expect("nm runs");
         let text = String::from_utf8_lossy(&output.stdout).into_owned();
         let mut defined: Vec<&str> = text.lines().filter_map(|line| line.split(' ').nth(2)).collect();
@@ -235,6 +239,51 @@ fn the_archives_have_the_names_of_the_sources() {
         exported.sort_unstable();
         assert_eq!(defined, exported, "{}", archive.display());
     }
+}
+
+/// The curve's two crates have the same exports, so that either archive goes with the header.
+#[test]
+fn the_curves_have_the_same_exports() {
+    let [stored, computed] = signatures::CURVES.map(|name| signatures::exports_of(&repository().join("crates").join(name)));
+    assert_eq!(stored, computed);
+    assert_eq!((stored.functions.len(), stored.constants.len()), (4, 2));
+}
+
+/// Numbers as bytes, in 16 and in 32 bits, the low byte first and last.
+fn stored_ways(numbers: &[i16]) -> [Vec<u8>; 4] {
+    [
+        numbers.iter().flat_map(|number| number.to_le_bytes()).collect(),
+        numbers.iter().flat_map(|number| number.to_be_bytes()).collect(),
+        numbers.iter().flat_map(|&number| i32::from(number).to_le_bytes()).collect(),
+        numbers.iter().flat_map(|&number| i32::from(number).to_be_bytes()).collect(),
+    ]
+}
+
+fn holds(bytes: &[u8], part: &[u8]) -> bool {
+    bytes.windows(part.len()).any(|window| window == part)
+}
+
+/// The archive of the stored curve has the bytes of both tables; in that of the computed one, and in the main one, no three entries follow one
+/// another.
+#[test]
+fn one_archive_alone_has_the_tables() {
+    let tables = [camera::y_table().to_vec(), camera::x_table().to_vec()];
+    let [stored, computed, main] = ["olsketina_curve", "olsketina_curve_computed", "olsketina"]
+        .map(|name| fs::read(archive(name)).expect("the archive is there"));
+    for table in &tables {
+        assert!(holds(&stored, &stored_ways(table)[0]));
+        for part in table.windows(3).flat_map(stored_ways) {
+            assert!(!holds(&computed, &part) && !holds(&main, &part), "{part:?}");
+        }
+    }
+}
+
+/// The program that runs is linked with the curve that was asked for.
+#[test]
+fn the_curve_that_is_linked() {
+    let program = fs::read(env::current_exe().expect("a program")).expect("readable");
+    let table = camera::y_table();
+    assert_eq!(holds(&program, &stored_ways(&table)[0]), !cfg!(feature = "computed-curve"));
 }
 
 /// A refusal's name, as the header writes it, and number, from a clause of the definition: `codeOf XSelect = 12`.

@@ -254,7 +254,13 @@ pub fn print_of_region(line: u64, command: u32, n: [u64; 16], table: RegionTable
     end_line();
 }
 
-// The answer of a command from 34 to 39, or of `whose`, with its value: positions, extent, conversion, curve entries, a byte's owner.
+// An entry of a curve.
+fn print_entry(line: u64, entry: i16) {
+    print_quantized(line, Quantized::Value(entry));
+}
+
+// The answer of a command from 34 to 39, of `whose`, 53 or 54, with its value: positions, extent, conversion, curve entries (stored; computed), a
+// byte's owner.
 pub fn print_value(line: u64, command: u32, n: [u64; 16]) {
     match command {
         34 => print_quantity(
@@ -267,9 +273,11 @@ pub fn print_value(line: u64, command: u32, n: [u64; 16]) {
             pixels_calls::position(pixel_setting(n, 0), natural(n, 8), natural(n, 9)),
         ),
         37 => print_quantized(line, convert(n)),
-        38 => print_quantized(line, Quantized::Value(camera::x_entry(natural(n, 0)))),
+        38 => print_entry(line, curve_stored::x_entry(natural(n, 0))),
+        39 => print_entry(line, curve_stored::y_entry(natural(n, 0))),
         48 => print_owner(line, layout_calls::whose(cube_layout(n), position(n, 7))),
-        _ => print_quantized(line, Quantized::Value(camera::y_entry(natural(n, 0)))),
+        53 => print_entry(line, curve_computed::x_entry(natural(n, 0))),
+        _ => print_entry(line, curve_computed::y_entry(natural(n, 0))),
     }
     end_line();
 }

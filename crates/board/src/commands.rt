@@ -5,7 +5,7 @@
 //     p  a position, a natural number below 2^61 - 2^31
 //     e  an element, a signed number of 16 bits   b  a byte, two hexadecimal digits
 //     E, B, S  any number of elements, bytes, samples (signed numbers of 32 bits)
-const TABLE: [u8; 787] = *b"elements:E\nbuffer:B\nsamples:S\ncells:ne\nfill:nb\n\
+const TABLE: [u8; 813] = *b"elements:E\nbuffer:B\nsamples:S\ncells:ne\nfill:nb\n\
 draw elements:nnens\ndraw buffer:nn\ndraw samples:nnsn\nmore elements:nnens\nmore buffer:nn\nmore samples:nnsn\ndraw curves:n\n\
 set element:ne\nprint all:\nprint sums:\n\
 show elements:\nshow buffer:\nshow samples:\nsum elements:\nsum buffer:\nsum samples:\n\
@@ -15,7 +15,7 @@ desk:nnnnnnn\nplace:nnnnnn\nhand slot:nnnnnnn\nhand layout:nnnnnnn\n\
 pixel setting:nnnnnnnn\n\
 position:nnnnnnnnnn\nextent:nnnnnnn\npixel position:nnnnnnnnnn\nconvert:seenn\ncurve x:n\ncurve y:n\n\
 x linear:ssseses\nx exponential:ssseses\ny:ssseses\nbits:nnn\ncounters:nnnnn\nready:snnn\nlookup:nnn\nsheet:\nwhose:nnnnnnnp\n\
-release:nn\nstall position:nnnnn\nstall count:nn\npaint:nnnnnnnnnneen\n";
+release:nn\nstall position:nnnnn\nstall count:nn\npaint:nnnnnnnnnneen\ncomputed x:n\ncomputed y:n\n";
 
 // The row of no command.
 pub const UNKNOWN: u32 = 255;
@@ -28,7 +28,7 @@ pub struct Found {
 
 // A byte of the table; from its end on, a newline.
 pub fn table_byte(i: usize) -> u8 {
-    if i < 787 { TABLE[i] } else { b'\n' }
+    if i < 813 { TABLE[i] } else { b'\n' }
 }
 
 // How many letters of a row are those of the name, after the letter c; 25 once the row has another name.
@@ -57,7 +57,7 @@ pub fn find(name: [u8; 24], length: usize) -> Found {
     let mut row = 0;
     let mut matched = 0;
     let mut i = 0;
-    while i < 787 {
+    while i < 813 {
         let c = table_byte(i);
         if c == b':' && matched == length {
             return Found {

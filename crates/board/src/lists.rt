@@ -53,9 +53,9 @@ fn draw_of(x: u32) -> u64 {
 fn curve_entry(i: usize) -> u64 {
     let k = (i % 4294967296) as u32;
     if k < 65 {
-        return of_short(camera::x_entry(k));
+        return of_short(curve_stored::x_entry(k));
     }
-    of_short(camera::y_entry(k - 65))
+    of_short(curve_stored::y_entry(k - 65))
 }
 
 // The number for index i.

@@ -175,7 +175,7 @@ fn run_apart(state: State) -> State {
         13 => s.sums = false,
         14 => s.sums = true,
         29..=33 => s.table = calls::call_apart(line.number, command, numbers, table),
-        34..=39 | 48 => calls::print_value(line.number, command, numbers),
+        34..=39 | 48 | 53..=54 => calls::print_value(line.number, command, numbers),
         50..=51 => calls::print_of_region(line.number, command, numbers, table),
         _ => s = lookup::set(state),
     }
@@ -188,7 +188,7 @@ fn run_made(state: State, elements: &mut [i16], buffer: &mut [u8], samples: &mut
     let command = line.command;
     match command {
         0..=11 => lend(state, elements, buffer, samples),
-        13..=14 | 29..=45 | 48 | 50..=51 => run_apart(state),
+        13..=14 | 29..=45 | 48 | 50..=51 | 53..=54 => run_apart(state),
         _ => run_on(state, elements, buffer, samples),
     }
 }

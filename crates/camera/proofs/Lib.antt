@@ -1,7 +1,7 @@
 -- Laws of the definitions of specs/.
 --     Computed         roots and ready-made settings, computed
 --     RootLaws         the greatest whole root
---     CurveLaws        a stored curve by one test of all its entries; the entries of a table
+--     CurveLaws        the entries of the curve and of its tables
 --     ReadyLaws        the ready-made settings as the code makes them, and its tests
 --     AcceptedLaws     the lookup's checks of the ready-made settings
 --     Claims           the claims about the curve and its settings, each proof a citation

@@ -1,6 +1,6 @@
 -- The greatest whole root. By induction on the limit. Assumes nothing.
 --     root-square, root-next     its square is at or below the number, and the next square is above it
---     root-is                    it is the one number of which both hold
+--     not-above, root-is         it is the one number of which both hold
 use Prim.Native.Nat.{ℕ, zero, suc, _*_, _≤_, _<_, zero-le}
 use native.Mathlib.Nat.{mul-le-mul}
 use native.Mathlib.Decide.{decLt}
@@ -38,7 +38,7 @@ unfolding root
 root-next n = next-lt n n (omega (arith, mul-le-mul {n₁ = 1} {m₁ = suc n} {n₂ = suc n} {m₂ = suc n} (omega arith) (omega arith)))
 
 -- a number whose square is at or below n is at or below one whose next square is above n
-not-above : (a b n : ℕ) → a * a ≤ n → n < suc b * suc b → a ≤ b
+pub not-above : (a b n : ℕ) → a * a ≤ n → n < suc b * suc b → a ≤ b
 not-above a b n h l = elim (decLt b a) [
   | yes k ↦ absurd (omega (arith, mul-le-mul {n₁ = suc b} {m₁ = suc b} {n₂ = a} {m₂ = a} k k))
   | no k ↦ omega (arith, k)

@@ -1,10 +1,10 @@
-// The camera curve and its ready-made lookup settings (scope paper, "Two tables").
+// The ready-made lookup settings of the camera curve (scope paper, "Two tables"). The curve's definitions are here too; its entries are
+// given by `curve_stored` and by `curve_computed`.
 ghost use mathlib.Core.Path.{_≡_};
 ghost use mathlib.Core.Bool.{true};
-ghost use Prim.Native.Nat.{_≤_, min};
+ghost use Prim.Native.Nat.{_≤_};
 ghost use lib.IntN.{pos};
 ghost use Rattle.lut.specs.Numbers.{between, scaled};
-ghost use Rattle.camera.specs.Curve.{curveY, curveX, yTable, xTable};
 ghost use Rattle.camera.specs.Ready.{chosen, readySettings, readyAnswer};
 use lut::LutSettings;
 use lut::Slope;
@@ -13,8 +13,6 @@ use lut::XMode;
 use lut::XSettings;
 use lut::YSettings;
 use refusal::Refusal;
-
-mod curve;
 
 // A priority bit: named as a table, or left unnamed.
 pub enum Choice {
@@ -26,45 +24,6 @@ pub enum Choice {
 pub enum Ready {
     Setting(LutSettings),
     Refused(Refusal, usize),
-}
-
-// The entries of the Y curve.
-pub fn y_table() -> [i16; 257]
-    ensures { λ r. ⌜ r ≡ yTable ⌝ }
-{
-    curve::Y_CURVE
-}
-
-// The entries of the X curve.
-pub fn x_table() -> [i16; 65]
-    ensures { λ r. ⌜ r ≡ xTable ⌝ }
-{
-    curve::X_CURVE
-}
-
-// The lesser of two numbers.
-fn lesser(a: u32, b: u32) -> u32
-    ensures { λ r. ⌜ r ≡ min a b ⌝ }
-{
-    if a < b { a } else { b }
-}
-
-// Entry i of the Y curve; past the last entry, the last.
-pub fn y_entry(i: u32) -> i16
-    ensures { λ r. ⌜ r ≡ curveY i ⌝ }
-{
-    let table = y_table();
-    let k = lesser(i, 256) as usize;
-    table[k]
-}
-
-// Entry j of the X curve; past the last entry, the last.
-pub fn x_entry(j: u32) -> i16
-    ensures { λ r. ⌜ r ≡ curveX j ⌝ }
-{
-    let table = x_table();
-    let k = lesser(j, 64) as usize;
-    table[k]
 }
 
 // The table named, or the given one where it is left unnamed.

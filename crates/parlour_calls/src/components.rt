@@ -11,14 +11,11 @@ ghost use Rattle.parlour_calls.specs.Steps.{Levels, runElement, stripEle
 use parlour::Conversion;
 use quantize::Quantized;
 
-// The component of a format whose bytes begin at p.
-fn component(code: u32, size: u32, pixels: &[u8], p: usize) -> i32
-    requires { ⌜ (size ≡ componentBytes code) × (1 ≤ size) × (size ≤ 2) × (p + size ≤ length (now pixels)) ⌝ }
+// The component of two bytes, of a format, that begins at p.
+fn component(code: u32, pixels: &[u8], p: usize) -> i32
+    requires { ⌜ (componentBytes code ≡ 2) × (p + 2 ≤ length (now pixels)) ⌝ }
     ensures { λ r. ⌜ r ≡ componentAt code (now (pixels .entry)) p ⌝ }
 {
-    if size == 1 {
-        return pixels[p] as i32;
-    }
     if code == 4 {
         return elements::from_bytes(pixels[p], pixels[p + 1]) as i32;
     }
@@ -82,7 +79,7 @@ fn convert_run(
         let x = if size == 1 {
             levels[pixels[p] as usize]
         } else {
-            convert(component(code, size, pixels, p), k, precision)
+            convert(component(code, pixels, p), k, precision)
         };
         tile[from + i] = x;
         i += 1;

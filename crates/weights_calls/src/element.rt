@@ -17,7 +17,7 @@ fn number_of(layout: WeightLayout, kernel: u32, channel: u32, row: u32, column: 
     let first = kernel / group * group;
     let kernels = walk::group_kernels(layout, first);
     let begin = channel / 64 * 64;
-    let channels = walk::least(64, layout.channels - begin);
+    let channels = general::least(64, layout.channels - begin);
     let pixel = row * layout.columns + column;
     let before = first * layout.channels + begin * kernels;
     let within = (pixel * kernels + kernel % group) * channels + channel % 64;

@@ -24,19 +24,12 @@ pub(crate) fn group_size(precision: u32) -> u32
     if precision == 0 { 32 } else { 16 }
 }
 
-// The lesser of two numbers.
-pub(crate) fn least(a: u32, b: u32) -> u32
-    ensures { λ r. ⌜ r ≡ min a b ⌝ }
-{
-    if b < a { b } else { a }
-}
-
 // Kernels of the group that begins with kernel `first`.
 pub(crate) fn group_kernels(layout: WeightLayout, first: u32) -> u32
     requires { ⌜ first < layout .kernels ⌝ }
     ensures { λ r. ⌜ r ≡ min (groupOf layout) (layout .kernels - first) ⌝ }
 {
-    least(group_size(layout.precision), layout.kernels - first)
+    general::least(group_size(layout.precision), layout.kernels - first)
 }
 
 // Channels of a run: those of one kernel, or where there is one block, of all kernels of the group.
@@ -61,7 +54,7 @@ pub(crate) fn run_columns(layout: WeightLayout, run: Run) -> ColumnBlock
     let plane = pixels as usize;
     let kernels = group_kernels(layout, run.first);
     let channel = run.block * 64;
-    let channels = least(64, layout.channels - channel);
+    let channels = general::least(64, layout.channels - channel);
     let width = run_width(layout, kernels, channels);
     let from = ((run.first + run.kernel) * layout.channels + channel) as usize * plane;
     let number = (run.first * layout.channels + channel * kernels) as usize * plane

@@ -3,6 +3,7 @@
 
 use crate::reference::{cube, elements, lookup as plain_lookup, parlour, pixels, regions, weights};
 use olsketina::{Answer, Conversion, Counters, ElementBox, Image, Layout, Lookup, Mode, Slope, Table, TableSettings, Weights};
+use std::hint::black_box;
 use std::iter::repeat;
 use std::ops::Range;
 
@@ -272,4 +273,12 @@ pub fn lookup(l: &Lookup, xs: &[i16], ys: &[i16], samples: &[i32], outputs: &mut
         *output = if from_y { value(Mode::Linear, &l.y, ys, in_y, x) } else { value(l.mode, &l.x, xs, in_x, x) };
     }
     Ok(())
+}
+
+/// The entries of the Y curve, by the standard library's root.
+#[inline(never)]
+pub fn curve(entries: &mut [i16; 257]) {
+    for (entry, i) in entries.iter_mut().zip(0u32..) {
+        *entry = (black_box(i) * 1048576).isqrt() as i16;
+    }
 }

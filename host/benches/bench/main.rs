@@ -7,7 +7,7 @@ use std::slice::from_ref;
 use std::time::Instant;
 
 use draw::Generator;
-use olsketina::{Answer, Conversion, Counters, Layout, Lookup, Mode, Slope, Table, TableSettings, Weights};
+use olsketina::{raw, Answer, Conversion, Counters, Layout, Lookup, Mode, Slope, Table, TableSettings, Weights};
 
 #[path = "../../tests/compare/draw.rs"]
 #[allow(dead_code)]
@@ -249,6 +249,20 @@ fn paint(name: &str, repetitions: usize, [format, width, height, precision]: [u3
     measure(name, repetitions, cells, &pixels, &vec![LEFT; bytes], &written, calls)
 }
 
+/// The entries of the Y curve, a hundred times; a cell is a whole table. One byte stands for the input that there is not.
+fn curve(name: &str) -> Row {
+    const TABLES: usize = 100;
+    let ours = |entries: &mut [i16; 257]| unsafe { raw::olsketina_camera_y_table(entries) };
+    let calls = [ours, loops::curve].map(|call| {
+        move |_: &[u8], to: &mut [i16]| {
+            to.chunks_exact_mut(257).for_each(|entries| call(entries.try_into().expect("257 entries")));
+            Ok([0; 5])
+        }
+    });
+    let count = 257 * TABLES;
+    measure(name, 1001, TABLES, &[0], &vec![-1; count], from_ref(&(0..count)), calls)
+}
+
 /// Y of 256 steps of 16 from `y_start`; Priority X, OverflowPriority X, UnderflowPriority Y.
 fn settings(mode: Mode, select: i32, start: i32, end: i32, y_start: i32) -> Lookup {
     let slope = |scale, shift| Slope { scale, shift };
@@ -295,7 +309,7 @@ fn print_table(title: &str, rows: &[Row], number: usize) {
 const EXPLAINED: &str = "\
 One thread, timed by its own running time; release builds; every result was compared with the Rust loop's before timing.
 Figures are the best repetition, in brackets the median. A bar is met where both ratios meet it. Interrupted runs do not count, unless
-they are more than half. Of lookups in runs of 1 and 64 samples a cell is a run.
+they are more than half. Of lookups in runs of 1 and 64 samples a cell is a run; of the curve a cell is a whole table.
 
 Painting: (d - 100) * 3 over 2^shift, shift 2 for int8 and 8 for int16, which holds no component; 1 where a third of them are held.
 
@@ -306,7 +320,14 @@ Priority X, OverflowPriority X, UnderflowPriority Y; table entries drawn from al
 
 Samples of each kind (X only, Y only, underflow, overflow, priority):";
 
+/// The curve that is linked.
+const CURVE: &str = if cfg!(feature = "computed-curve") { "curve of 257 entries, computed" } else { "curve of 257 entries, stored" };
+
+/// With the word `curve`, the curve alone.
 fn main() {
+    if std::env::args().any(|word| word == "curve") {
+        return print_table("The curve alone.", &[curve(CURVE)], 0);
+    }
     const ALL: usize = 1_000_000;
     const FEW: usize = 64_000;
     const LOW: i32 = -2048;
@@ -348,6 +369,7 @@ fn main() {
         rows.push(at_most(1.5, RUST_LOOP, lookup(&name("random"), &s, &random, ALL)));
         rows.push(at_most(1.5, RUST_LOOP, lookup(&name("rising"), &s, &rising, ALL)));
     }
+    rows.push(curve(CURVE));
     println!("{EXPLAINED}");
     for row in rows.iter().filter(|row| row.kinds != [0; 5]) {
         println!("- {}: {:?}", row.name, row.kinds);

@@ -313,7 +313,7 @@ fn every_entry_of_the_curve() {
 
 /// Every select from below the range to above it, each bit named X, named Y or not named; then the settings at work.
 #[test]
-fn ready_made_settings() {
+fn ready_made_settings_of_the_curve() {
     let (mut g, mut both) = start(90);
     let words = [0, 1, 2, 1 << 31, u32::MAX].map(Choice);
     let selects = (-3..=26).chain([i32::MIN, i32::MIN + 2, -22, 32, 34, i32::MAX]);

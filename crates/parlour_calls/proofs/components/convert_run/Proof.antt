@@ -96,7 +96,9 @@ element-copy-out-x : tie.Need-element-copy-out-x Inv-loop μ-loop
 element-copy-out-x c = byte c
 
 component-requires : tie.Need-component-requires Inv-loop μ-loop
-component-requires c κs = let i = c .before in let s = i .before .before .before in (s .pre .0 .0, s .pre .0 .1, s .pre .0 .2, room i)
+component-requires c κs = let i = c .before in
+    let s = i .before .before .before in
+    let two : s .args .size ≡ 2 = omega (arith, c .if1 .left, s .pre .0 .1, s .pre .0 .2) in (sym (s .pre .0 .0) ∙ two, omega (arith, two, room i))
 
 convert-requires : tie.Need-convert-requires Inv-loop μ-loop
 convert-requires c κs = c .before .before .before .before .before .pre .0 .3

@@ -1,16 +1,14 @@
 -- `parlour_calls::components::levels` meets its contract. The loop's invariant: the first n numbers are converted. Assumes nothing.
 use Prim.Native.Nat.{ℕ, _-_, _≤_, _<_}
 use native.Mathlib.Omega.{arith}
-use native.Mathlib.Nat.{eq-or-lt-of-le}
-use mathlib.Core.Path.{_≡_, refl, sym, ap, subst, _∙_}
-use mathlib.Core.Logic.{⊎-elim}
-use lib.ListN.{length, getD, set, length-set}
-use lib.Seq.{getD-set-same, getD-set-other}
+use mathlib.Core.Path.{_≡_, refl, ap, _∙_}
+use lib.ListN.{length, getD, length-set}
 use lib.IntN.{pos}
 use borrow.Author.Needs.{sfits-of}
 use mir.Syntax.{w16, w32}
 use mir.Val.{toZ, ofZ}
 use mir.Facts.{toZ-ofZ, toZ-pos}
+use Rattle.general.proofs.ListLaws.{filled-more}
 use Rattle.parlour.specs.Components.{converted}
 use Rattle.parlour_calls.proofs.components.levels.Statement.{statement}
 use Rattle.parlour_calls.proofs.components.levels.Tie as tie
@@ -55,11 +53,7 @@ loop-again c = let i = c .before in
     let v = toZ w16 (ofZ w16 (c .convert .result)) in (
       omega (arith, i .loop-test .taken),
       length-set (l .loop .table) n v ∙ l .loop .inv .1,
-      λ m h. ⊎-elim
-          (λ e. subst (λ (j : ℕ). getD (set (l .loop .table) n v) j (pos 0) ≡ converted (l .before .args .k) (l .before .args .precision) (pos j)) (sym e)
-          (getD-set-same (l .loop .table) n v (pos 0) (omega (arith, i .loop-test .taken, l .loop .inv .1)) ∙ level c))
-          (λ less. getD-set-other (l .loop .table) n m v (pos 0) (λ e. omega (arith, e, less)) ∙ l .loop .inv .2 m less)
-          (eq-or-lt-of-le (omega (arith, h))),
+      filled-more (pos 0) (λ m. converted (l .before .args .k) (l .before .args .precision) (pos m)) (l .loop .table) n v (omega (arith, i .loop-test .taken, l .loop .inv .1)) (level c) (l .loop .inv .2),
     )
 
 returns : tie.Need-returns Inv-loop μ-loop
