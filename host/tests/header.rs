@@ -249,10 +249,14 @@ fn the_curves_have_the_same_exports() {
     assert_eq!((stored.functions.len(), stored.constants.len()), (4, 2));
 }
 
-/// Numbers as bytes, in 16 and in 32 bits, the low byte first and last.
-fn stored_ways(numbers: &[i16]) -> [Vec<u8>; 4] {
+/// Numbers as bytes, the low one first.
+fn bytes_of(numbers: &[i16]) -> Vec<u8> {
+    numbers.iter().flat_map(|number| number.to_le_bytes()).collect()
+}
+
+/// The same with the high one first, and as numbers of 32 bits, either way.
+fn other_bytes_of(numbers: &[i16]) -> [Vec<u8>; 3] {
     [
-        numbers.iter().flat_map(|number| number.to_le_bytes()).collect(),
         numbers.iter().flat_map(|number| number.to_be_bytes()).collect(),
         numbers.iter().flat_map(|&number| i32::from(number).to_le_bytes()).collect(),
         numbers.iter().flat_map(|&number| i32::from(number).to_be_bytes()).collect(),
@@ -263,17 +267,25 @@ fn holds(bytes: &[u8], part: &[u8]) -> bool {
     bytes.windows(part.len()).any(|window| window == part)
 }
 
-/// The archive of the stored curve has the bytes of both tables; in that of the computed one, and in the main one, no three entries follow one
-/// another.
+/// The entries of Y and X, eight by eight, as the compiler lays the bytes of a table: its last entry stands by itself and is not looked for.
+fn stored(bytes: &[u8]) -> [bool; 2] {
+    let has = |table: &[i16]| table.chunks_exact(8).all(|part| holds(bytes, &bytes_of(part)));
+    [has(&camera::y_table()), has(&camera::x_table())]
+}
+
+/// The archive of the stored curve has the bytes of both tables; in that of the computed one, and in the main one, no three entries stand behind
+/// one another.
 #[test]
-fn one_archive_alone_has_the_tables() {
-    let tables = [camera::y_table().to_vec(), camera::x_table().to_vec()];
-    let [stored, computed, main] = ["olsketina_curve", "olsketina_curve_computed", "olsketina"]
-        .map(|name| fs::read(archive(name)).expect("the archive is there"));
-    for table in &tables {
-        assert!(holds(&stored, &stored_ways(table)[0]));
-        for part in table.windows(3).flat_map(stored_ways) {
-            assert!(!holds(&computed, &part) && !holds(&main, &part), "{part:?}");
+fn one_archive_has_the_tables_of_the_curve() {
+    let read = |name| fs::read(archive(name)).expect("the archive is there");
+    let [with, without] = signatures::CURVES.map(read);
+    assert_eq!(stored(&with), [true; 2]);
+    for bytes in [without, read("olsketina")] {
+        for table in [&camera::y_table()[..], &camera::x_table()] {
+            for entries in table.windows(3) {
+                let found = [bytes_of(entries)].iter().chain(&other_bytes_of(entries)).any(|part| holds(&bytes, part));
+                assert!(!found, "{entries:?}");
+            }
         }
     }
 }
@@ -282,8 +294,7 @@ fn one_archive_alone_has_the_tables() {
 #[test]
 fn the_curve_that_is_linked() {
     let program = fs::read(env::current_exe().expect("a program")).expect("readable");
-    let table = camera::y_table();
-    assert_eq!(holds(&program, &stored_ways(&table)[0]), !cfg!(feature = "computed-curve"));
+    assert_eq!(stored(&program), [!cfg!(feature = "computed-curve"); 2]);
 }
 
 /// A refusal's name, as the header writes it, and number, from a clause of the definition: `codeOf XSelect = 12`.
