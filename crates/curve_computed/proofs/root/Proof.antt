@@ -35,7 +35,7 @@ add-next : tie.Need-add-next Inv-loop μ-loop
 add-next c = record { fits = omega (arith, quotient-le (c .before .before .args .n) (c .loop .estimate) (c .loop .inv .0), c .loop .inv) }
 
 loop-less : tie.Need-loop-less Inv-loop μ-loop
-loop-less c = c .if2 .left
+loop-less c = omega (arith, c .if2 .left)
 
 loop-again : tie.Need-loop-again Inv-loop μ-loop
 unfolding newton
@@ -43,7 +43,7 @@ loop-again c = (above (c .before), omega (arith, c .if2 .left, c .before .loop .
 
 returns-2 : tie.Need-returns-2 Inv-loop μ-loop
 unfolding newton
-returns-2 c = let l = c .before in sym (step-stops (l .before .before .args .n) (l .loop .estimate) (l .loop .inv .0) (c .if2 .taken))
+returns-2 c = let l = c .before in sym (step-stops (l .before .before .args .n) (l .loop .estimate) (l .loop .inv .0) (omega (arith, c .if2 .taken)))
 
 pub root-spec : {M : Type 1} → statement M
 root-spec = tie.close (tie.spec Inv-loop μ-loop returns loop-holds div-next add-next loop-less loop-again returns-2)
