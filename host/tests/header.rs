@@ -1,5 +1,6 @@
 //! The header against the Rattle sources: a C file of typed function pointers, made from the sources' own signatures, compiles with it as C11
-//! and C++17 without a warning; names, parameters' names and word counts are the same; and a wrong header fails.
+//! and C++17 without a warning; names, parameters' names and word counts are the same; and a wrong header fails. The curve's two archives: the same
+//! exports in both, the entries' bytes in one.
 
 #[path = "../signatures.rs"]
 #[allow(dead_code)]
