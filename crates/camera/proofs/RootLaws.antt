@@ -1,6 +1,7 @@
 -- The greatest whole root. By induction on the limit. Assumes nothing.
 --     root-square, root-next     its square is at or below the number, and the next square is above it
---     not-above, root-is         it is the one number of which both hold
+--     root-is                    it is the one number of which both hold
+--     root-le, root-positive     it is at most a number whose next square is above; it is 0 of 0 alone
 use Prim.Native.Nat.{ℕ, zero, suc, _*_, _≤_, _<_, zero-le}
 use native.Mathlib.Nat.{mul-le-mul}
 use native.Mathlib.Decide.{decLt}
@@ -38,7 +39,7 @@ unfolding root
 root-next n = next-lt n n (omega (arith, mul-le-mul {n₁ = 1} {m₁ = suc n} {n₂ = suc n} {m₂ = suc n} (omega arith) (omega arith)))
 
 -- a number whose square is at or below n is at or below one whose next square is above n
-pub not-above : (a b n : ℕ) → a * a ≤ n → n < suc b * suc b → a ≤ b
+not-above : (a b n : ℕ) → a * a ≤ n → n < suc b * suc b → a ≤ b
 not-above a b n h l = elim (decLt b a) [
   | yes k ↦ absurd (omega (arith, mul-le-mul {n₁ = suc b} {m₁ = suc b} {n₂ = a} {m₂ = a} k k))
   | no k ↦ omega (arith, k)
@@ -46,3 +47,9 @@ not-above a b n h l = elim (decLt b a) [
 
 pub root-is : (n e : ℕ) → e * e ≤ n → n < suc e * suc e → root n ≡ e
 root-is n e h l = omega (arith, not-above (root n) e n (root-square n) l, not-above e (root n) n h (root-next n))
+
+pub root-le : (n b : ℕ) → n < suc b * suc b → root n ≤ b
+root-le n b h = not-above (root n) b n (root-square n) h
+
+pub root-positive : (n : ℕ) → 0 < n → 0 < root n
+root-positive n h = not-above 1 (root n) n h (root-next n)

@@ -3,7 +3,7 @@ use mathlib.Core.Path.{_≡_, refl}
 use mathlib.Core.List.{[], _∷_}
 use Rattle.curve_computed.specs.Newton.{newton, estimates, lastOf}
 
--- entry 2 of Y is the root of 2097152: nine steps from 65535 to 1448
+-- entry 2 of Y is the root of 2097152: nine estimates, from 65535 to 1448
 pub entry-2 : estimates 99 2097152 65535 ≡ 65535 ∷ 32783 ∷ 16423 ∷ 8275 ∷ 4264 ∷ 2377 ∷ 1629 ∷ 1458 ∷ 1448 ∷ []
 unfolding newton estimates
 entry-2 = refl

@@ -1,4 +1,4 @@
--- Laws of Newton's steps, and of the entries that they give.
+-- Laws of Newton's steps.
 --     Computed       Newton's steps, computed
 --     NewtonLaws     one step, and all steps, over any number
 --     Claims         the claims about the steps, each proof a citation

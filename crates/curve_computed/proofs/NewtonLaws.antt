@@ -1,9 +1,9 @@
 -- Newton's steps to a whole square root, over any number. Assumes nothing.
---     step-above              a step from any estimate is at or above the root
---     step-falls              a step from above the root falls
---     step-stops              an estimate at or above the root that does not fall is the root
---     estimates-last          so the estimates end with the root
---     root-le, root-positive, quotient-le     sizes: of a root, and of the number over an estimate
+--     quotient-le        the size of the number over an estimate
+--     step-above         a step from any estimate is at or above the root
+--     step-falls         a step from above the root falls
+--     step-stops         an estimate at or above the root that does not fall is the root
+--     estimates-last     so the estimates end with the root
 use Prim.Native.Nat.{ℕ, zero, suc, _+_, _-_, _*_, _/_, _≤_, _<_}
 use native.Mathlib.Nat.{mul-add, add-mul, one-mul, suc-mul, mul-suc, mul-comm, mul-assoc, mul-le-mul, mul-le-mul-right, lt-div-mul-add, div-lt-iff-lt-mul, div-le-of-le-mul}
 use native.Mathlib.Decide.{decLe, decLt}
@@ -14,16 +14,8 @@ use mathlib.Core.List.{[]}
 use lib.Dec.{ltb}
 use borrow.Author.Tests.{ltb-true, ltb-false}
 use Rattle.camera.specs.Curve.{root}
-use Rattle.camera.proofs.RootLaws.{root-square, root-next, not-above}
+use Rattle.camera.proofs.RootLaws.{root-next, root-le, root-positive}
 use Rattle.curve_computed.specs.Newton.{newton, estimates, lastOf}
-
--- ---- sizes
-
-pub root-le : (n b : ℕ) → n < suc b * suc b → root n ≤ b
-root-le n b h = not-above (root n) b n (root-square n) h
-
-pub root-positive : (n : ℕ) → 0 < n → 0 < root n
-root-positive n h = not-above 1 (root n) n h (root-next n)
 
 -- the number over an estimate at or above the root is at most two above the root
 pub quotient-le : (n e : ℕ) → root n ≤ e → n / e ≤ root n + 2

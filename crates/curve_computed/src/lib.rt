@@ -24,7 +24,7 @@ fn root(n: u32) -> u32
     }
 }
 
-// Entry i of a curve with entries 0 to `last`; past the last, the last.
+// Entry i of a curve with entries 0 to `last`; past the last, the last. 268435456 is 16384 squared.
 fn entry(last: u32, step: u32, i: u32) -> i16
     requires { ⌜ last * step ≤ 268435456 ⌝ }
     ensures { λ r. ⌜ r ≡ curveEntry last step i ⌝ }

@@ -8,7 +8,7 @@ use lib.IntN.{pos}
 use mir.Syntax.{w16}
 use mir.Facts.{toZ-pos}
 use Rattle.camera.specs.Curve.{root, curveEntry}
-use Rattle.curve_computed.proofs.NewtonLaws.{root-le}
+use Rattle.camera.proofs.RootLaws.{root-le}
 use Rattle.curve_computed.proofs.entry.Statement.{statement}
 use Rattle.curve_computed.proofs.entry.Tie as tie
 

@@ -3,8 +3,9 @@ use Prim.Native.Nat.{_≤_, _<_}
 use native.Mathlib.Omega.{arith}
 use mathlib.Core.Path.{sym}
 use Rattle.camera.specs.Curve.{root}
+use Rattle.camera.proofs.RootLaws.{root-le, root-positive}
 use Rattle.curve_computed.specs.Newton.{newton}
-use Rattle.curve_computed.proofs.NewtonLaws.{root-le, root-positive, quotient-le, step-above, step-stops}
+use Rattle.curve_computed.proofs.NewtonLaws.{quotient-le, step-above, step-stops}
 use Rattle.curve_computed.proofs.root.Statement.{statement}
 use Rattle.curve_computed.proofs.root.Tie as tie
 
