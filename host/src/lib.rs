@@ -1,6 +1,7 @@
 //! Olsketina for Rust: memory layouts of a small NVDLA accelerator. A setting is a struct, an answer `Result<_, Refusal>`: the library takes any
 //! contents of any argument, and refuses what breaks a rule of the scope paper. Each call is a proved one of crates/olsketina/src/ or of
-//! crates/olsketina_curve/src/ (with the feature `computed-curve`, crates/olsketina_curve_computed/src/), where its promise stands above it; include/olsketina.h says in words what it does and which checks it makes.
+//! crates/olsketina_curve/src/ (with the feature `computed-curve`, crates/olsketina_curve_computed/src/), where its promise stands above it;
+//! include/olsketina.h says in words what it does and which checks it makes.
 //!
 //! ```
 //! use olsketina::{Layout, Refusal, Region, Table, INT8};

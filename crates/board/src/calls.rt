@@ -259,8 +259,8 @@ fn print_entry(line: u64, entry: i16) {
     print_quantized(line, Quantized::Value(entry));
 }
 
-// The answer of a command from 34 to 39, of `whose`, 53 or 54, with its value: positions, extent, conversion, curve entries (stored; computed), a
-// byte's owner.
+// The answer of a command from 34 to 39, of 48, 53 or 54, with its value: positions, extent, conversion, entries of the stored curve; a byte's
+// owner; entries of the computed curve.
 pub fn print_value(line: u64, command: u32, n: [u64; 16]) {
     match command {
         34 => print_quantity(

@@ -1,6 +1,6 @@
 -- The entries of the curve and of its tables. By induction on the number of entries. Assumes nothing.
---     curve-rule                     an entry's square, and the next square
 --     entries-length, entries-at     how many entries a table has, and the entry at each index
+--     curve-rule                     an entry's square, and the next square
 --     entry-read                     the entry that is read: an index past the last has the last entry
 use Prim.Native.Nat.{ℕ, zero, suc, _+_, _*_, _≤_, _<_, min}
 use native.Mathlib.Nat.{zero-add, min-eq-left, min-le-right}
@@ -12,14 +12,6 @@ use lib.IntN.{ℤ, pos, natAbs}
 use lib.ListN.{length, getD}
 use Rattle.camera.specs.Curve.{curveEntry, indices}
 use Rattle.camera.proofs.RootLaws.{root-square, root-next}
-
--- ---- an entry
-
-module _ (last step : ℕ) where
-  -- the definition's own rule
-  pub curve-rule : (i : ℕ) → i ≤ last → let e = natAbs (curveEntry last step i) in (e * e ≤ i * step) × (i * step < (e + 1) * (e + 1))
-  unfolding curveEntry
-  curve-rule i h = rw (min-eq-left {n = i} {m = last} h) (root-square (i * step), simp add-one (root-next (i * step)))
 
 -- ---- the entries of a table
 
@@ -34,7 +26,14 @@ entries-at f i zero k h = absurd (omega arith)
 entries-at f i (suc n) zero h = ap f (omega arith)
 entries-at f i (suc n) (suc k) h = entries-at f (suc i) n k (omega arith) ∙ ap f (omega arith)
 
+-- ---- the entries of a curve
+
 module _ (last step : ℕ) where
+  -- the definition's own rule
+  pub curve-rule : (i : ℕ) → i ≤ last → let e = natAbs (curveEntry last step i) in (e * e ≤ i * step) × (i * step < (e + 1) * (e + 1))
+  unfolding curveEntry
+  curve-rule i h = rw (min-eq-left {n = i} {m = last} h) (root-square (i * step), simp add-one (root-next (i * step)))
+
   entry-held : (i : ℕ) → curveEntry last step (min i last) ≡ curveEntry last step i
   unfolding curveEntry
   entry-held i = rw (min-eq-left {n = min i last} {m = last} (min-le-right i last))

@@ -4,11 +4,11 @@ use mathlib.Core.Bool.{cond}
 use mathlib.Core.List.{List, [], _∷_}
 use lib.Dec.{ltb}
 
--- the estimate of n's root after e: the mean of e and n over e
+-- the estimate of n's root after e: the mean of e and n over e, rests dropped both times
 unfoldable pub newton : ℕ → ℕ → ℕ
 newton n e = (e + n / e) / 2
 
--- the estimates from e on while they fall, at most so many
+-- the estimates of n's root from e on while they fall, at most so many
 unfoldable pub estimates : ℕ → ℕ → ℕ → List ℕ
 estimates zero n e = []
 estimates (suc most) n e = e ∷ cond (ltb (newton n e) e) (estimates most n (newton n e)) []

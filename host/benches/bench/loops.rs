@@ -275,7 +275,7 @@ pub fn lookup(l: &Lookup, xs: &[i16], ys: &[i16], samples: &[i32], outputs: &mut
     Ok(())
 }
 
-/// The entries of the Y curve, by the standard library's root.
+/// The entries of the Y curve, by the standard library's root. Each index is hidden from the compiler, which could else compute the table itself.
 #[inline(never)]
 pub fn curve(entries: &mut [i16; 257]) {
     for (entry, i) in entries.iter_mut().zip(0u32..) {

@@ -5,7 +5,7 @@ use mathlib.Core.Path.{sym}
 use Rattle.camera.specs.Curve.{root}
 use Rattle.camera.proofs.RootLaws.{root-le, root-positive}
 use Rattle.curve_computed.specs.Newton.{newton}
-use Rattle.curve_computed.proofs.NewtonLaws.{quotient-le, step-above, step-stops}
+use Rattle.curve_computed.proofs.NewtonLaws.{quotient-le, newton-above, newton-stops}
 use Rattle.curve_computed.proofs.root.Statement.{statement}
 use Rattle.curve_computed.proofs.root.Tie as tie
 
@@ -21,7 +21,7 @@ positive c = root-positive (c .before .before .args .n) (omega (arith, c .before
 
 -- a step does not go below the root
 above : (c : tie.At-loop Inv-loop μ-loop) → root (c .before .before .args .n) ≤ newton (c .before .before .args .n) (c .loop .estimate)
-above c = step-above (c .before .before .args .n) (c .loop .estimate) (omega (arith, positive c, c .loop .inv .0))
+above c = newton-above (c .before .before .args .n) (c .loop .estimate) (omega (arith, positive c, c .loop .inv .0))
 
 returns : tie.Need-returns Inv-loop μ-loop
 returns c = omega (arith, root-le (c .before .args .n) 0 (omega (arith, c .if1 .taken)))
@@ -44,7 +44,7 @@ loop-again c = (above (c .before), omega (arith, c .if2 .left, c .before .loop .
 
 returns-2 : tie.Need-returns-2 Inv-loop μ-loop
 unfolding newton
-returns-2 c = let l = c .before in sym (step-stops (l .before .before .args .n) (l .loop .estimate) (l .loop .inv .0) (omega (arith, c .if2 .taken)))
+returns-2 c = let l = c .before in sym (newton-stops (l .before .before .args .n) (l .loop .estimate) (l .loop .inv .0) (omega (arith, c .if2 .taken)))
 
 pub root-spec : {M : Type 1} → statement M
 root-spec = tie.close (tie.spec Inv-loop μ-loop returns loop-holds div-next add-next loop-less loop-again returns-2)

@@ -1,27 +1,21 @@
 -- `pack_frame::fill` meets its contract. The loop's invariant: `i` is at most the number of elements, which stays, and each index below `i`
 -- has its element. Assumes nothing.
-use Prim.Native.Nat.{ℕ, _+_, _%_, _≤_, _<_, _-_}
+use Prim.Native.Nat.{ℕ, _%_, _≤_, _<_, _-_}
 use mathlib.Core.List.{List}
 use mathlib.Core.Path.{_≡_, _∙_}
 use native.Mathlib.Omega.{arith}
 use lib.IntN.{ℤ, pos, _-ℤ_}
-use lib.ListN.{length, getD, set, length-set}
-use lib.Seq.{getD-set-same, getD-set-other}
+use lib.ListN.{length, getD, length-set}
 use mir.Facts.{toZ-ofZ}
-use borrow.Author.Count.{below-none, below-more}
+use borrow.Author.Count.{below-none}
 use borrow.Author.Needs.{needs}
+use Rattle.general.proofs.ListLaws.{filled-more}
 use Rattle.pack_frame.proofs.fill.Statement.{statement}
 use Rattle.pack_frame.proofs.fill.Tie as tie
 
 -- the list has f's value at each index below n
 abbrev Filled : (ℕ → ℤ) → List ℤ → ℕ → Type 0
 Filled f l n = (k : ℕ) → k < n → getD l k (pos 0) ≡ f k
-
-Filled-more : (f : ℕ → ℤ) (l : List ℤ) (i : ℕ) (v : ℤ) → i < length l → Filled f l i → v ≡ f i → Filled f (set l i v) (i + 1)
-Filled-more f l i v h below e =
-    below-more (λ (k : ℕ). getD (set l i v) k (pos 0) ≡ f k) i
-    (λ k b. getD-set-other l i k v (pos 0) (λ q. omega arith) ∙ below k b)
-    (getD-set-same l i v (pos 0) h ∙ e)
 
 abbrev value : ℕ → ℤ
 value k = pos (k % 251) -ℤ pos 125
@@ -53,7 +47,7 @@ loop-less c = rw length-set (omega arith)
 loop-again : tie.Need-loop-again Inv-loop μ-loop
 loop-again c =
     let at = c .before .before .loop in
-    (rw length-set (omega arith), rw length-set (search needs), Filled-more value (at .elements) (at .i) _ (omega arith) (at .inv .2) (toZ-ofZ (search needs) ∙ c .element .ensures))
+    (rw length-set (omega arith), rw length-set (search needs), filled-more (pos 0) value (at .elements) (at .i) _ (omega arith) (toZ-ofZ (search needs) ∙ c .element .ensures) (at .inv .2))
 
 same-length : tie.Need-same-length Inv-loop μ-loop
 same-length c = search needs
