@@ -135,7 +135,7 @@ pub fn call_apart(line: u64, command: u32, n: [u64; 16], table: RegionTable) -> 
     outcome.table
 }
 
-// The calls from 21 to 28, on elements and buffer, `release`, on the buffer, and `paint`, on both.
+// The calls from 21 to 28, on elements and buffer, and `release`, on the buffer.
 pub fn call(
     command: u32,
     n: [u64; 16],
@@ -166,17 +166,14 @@ pub fn call(
     if command == 49 {
         return regions_calls::release(table, natural(n, 0), natural(n, 1), buffer);
     }
-    if command == 52 {
-        return crate::paint::run(n, table, elements, buffer);
-    }
     Outcome {
         answer: on_packed(command, n, elements, buffer),
         table: table,
     }
 }
 
-// Line number, code, fault index and value of a position or an extent.
-fn print_quantity(line: u64, q: Quantity) {
+// Line number, code, fault index and value of a position, an extent or a count.
+pub fn print_quantity(line: u64, q: Quantity) {
     match q {
         Quantity::Is(value) => {
             print_answer(line, Answer::Accepted);
@@ -189,15 +186,17 @@ fn print_quantity(line: u64, q: Quantity) {
     }
 }
 
-// Line number, code, fault index and value of a converted number.
+// Line number, code, fault index and value of a converted number, and 1 where it was held.
 fn print_quantized(line: u64, q: Quantized) {
     match q {
-        Quantized::Value(value) => {
+        Quantized::Value(c) => {
             print_answer(line, Answer::Accepted);
-            print_signed(of_short(value));
+            print_signed(of_short(c.value));
+            print_natural(c.held as u64);
         }
         Quantized::Refused(r, at) => {
             print_answer(line, Answer::Refused(r, at));
+            print_natural(0);
             print_natural(0);
         }
     }
@@ -256,7 +255,8 @@ pub fn print_of_region(line: u64, command: u32, n: [u64; 16], table: RegionTable
 
 // An entry of a curve.
 fn print_entry(line: u64, entry: i16) {
-    print_quantized(line, Quantized::Value(entry));
+    print_answer(line, Answer::Accepted);
+    print_signed(of_short(entry));
 }
 
 // The answer of a command from 34 to 39, of 48, 53 or 54, with its value: positions, extent, conversion, entries of the stored curve; a byte's

@@ -106,7 +106,7 @@ fn show(line: Line, elements: &[i16], buffer: &[u8], samples: &[i32]) {
 // The list that a call may change.
 fn left_by(command: u32) -> u32 {
     match command {
-        21..=24 | 49 | 52 => 1,
+        21..=24 | 49 => 1,
         _ => 0,
     }
 }
@@ -121,6 +121,21 @@ fn call(state: State, elements: &mut [i16], buffer: &mut [u8], samples: &[i32]) 
     let table = outcome.table;
     print::print_answer(line.number, answer);
     lists::tell_left(left_by(line.command), state.sums, elements, buffer, samples);
+    let mut s = state;
+    s.table = table;
+    s
+}
+
+// `paint`; prints its answer, how many components were held, and the buffer that it left.
+fn paint(state: State, elements: &[i16], buffer: &mut [u8], samples: &[i32]) -> State {
+    let line = state.line;
+    let n = line.numbers;
+    let before = state.table;
+    let outcome = paint::run(n, before, elements, buffer);
+    let held = outcome.held;
+    let table = outcome.table;
+    calls::print_quantity(line.number, held);
+    lists::tell_left(1, state.sums, elements, buffer, samples);
     let mut s = state;
     s.table = table;
     s
@@ -146,6 +161,7 @@ fn run_lent(state: State, elements: &mut [i16], buffer: &mut [u8], samples: &mut
             sheet::run(line.number, buffer);
             state
         }
+        52 => paint(state, elements, buffer, samples),
         _ => call(state, elements, buffer, samples),
     }
 }

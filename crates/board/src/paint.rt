@@ -6,7 +6,7 @@ use crate::line::natural;
 use crate::line::short;
 use crate::numbers::of_short;
 use parlour::Conversion;
-use regions::Outcome;
+use parlour::PaintOutcome;
 use regions::RegionTable;
 
 // Room for a pixel buffer, all 0.
@@ -50,7 +50,7 @@ fn paint(
     elements: &[i16],
     pixels: &mut [u8],
     buffer: &mut [u8],
-) -> Outcome {
+) -> PaintOutcome {
     fill(elements, pixels);
     parlour_calls::paint(
         table,
@@ -64,7 +64,7 @@ fn paint(
 }
 
 // `paint slot id P.. offset SF shift`.
-pub fn run(n: [u64; 16], table: RegionTable, elements: &[i16], buffer: &mut [u8]) -> Outcome {
+pub fn run(n: [u64; 16], table: RegionTable, elements: &[i16], buffer: &mut [u8]) -> PaintOutcome {
     let count = crate::held(elements.len(), 307200);
     let mut pixels = zero_pixels();
     paint(n, table, elements, &mut pixels[..count], buffer)

@@ -3,6 +3,7 @@
 --     up, dn                                       what z has above 0, and below
 --     ud-inj                                       equal differences are equal numbers
 --     add-ud, take-ud, times-ud                    sum, difference, product
+--     neg-up, neg-dn                               the parts of -z
 --     up-times, dn-times                           a multiple
 --     ltZ-true, ltZ-false, leZ-true, leZ-false     what a test says
 --     le-ltZ, le-leZ, lt-leZ                       which way a test goes
@@ -51,12 +52,12 @@ add-ud (pos m) (negsuc n) = omega (arith, sub-ud m (suc n))
 add-ud (negsuc m) (pos n) = omega (arith, sub-ud n (suc m))
 add-ud (negsuc m) (negsuc n) = omega arith
 
-neg-up : (b : ℤ) → up (negℤ b) ≡ dn b
+pub neg-up : (b : ℤ) → up (negℤ b) ≡ dn b
 neg-up (pos zero) = refl
 neg-up (pos (suc n)) = refl
 neg-up (negsuc n) = refl
 
-neg-dn : (b : ℤ) → dn (negℤ b) ≡ up b
+pub neg-dn : (b : ℤ) → dn (negℤ b) ≡ up b
 neg-dn (pos zero) = refl
 neg-dn (pos (suc n)) = refl
 neg-dn (negsuc n) = refl

@@ -29,11 +29,12 @@ use Rattle.regions.specs.Calls.{placeAnswer, editAnswer, editBuffer, readAnswer
 use Rattle.regions.proofs.CallLaws.{read-accepted, edit-accepted}
 use Rattle.parlour.specs.declared.Conversion.{Conversion}
 use Rattle.parlour.specs.Components.{paintedElements}
+use Rattle.parlour.specs.Counts.{heldCount}
 use Rattle.parlour.specs.Rules.{paintChecks}
 use Rattle.parlour.specs.Calls.{paintAnswer, paintBuffer}
 use Rattle.parlour.proofs.ElementLaws.{painted-sixteen}
 use Rattle.parlour.proofs.CallLaws.{paint-as-edit}
-use Rattle.history.specs.Program.{Call, place, edit, read, release, paint, none, lends, SixteenBit, State, stateOf, step}
+use Rattle.history.specs.Program.{Call, place, edit, read, release, paint, none, held, replyOf, lends, SixteenBit, State, stateOf, step}
 use Rattle.history.specs.Model.{boxWritten, boxRead, Plain, named, plainAnswer, plainStep}
 use Rattle.history.proofs.TensorLaws.{boxWritten-length, packed-boxWritten, Fits, boxWritten-fits, packed-boxRead, zeros-at}
 use Rattle.history.proofs.TableLaws.{placed-layout, placed-slots, released-layout, released-slots}
@@ -88,7 +89,7 @@ module _ (q : CubeLayout) (before : List ℕ) where
     same-reply (edit n id b xs) = ap (λ (x : Answer). record { answer = x; value = none }) (same-edit n id b xs)
     same-reply (read n id b xs) = ap (λ (x : Answer). record { answer = x; value = none }) (same-read n id b xs)
     same-reply (release n id) = ap (λ (x : Answer). record { answer = x; value = none }) (same-release n id)
-    same-reply (paint n id image pixels k) = ap (λ (x : Answer). record { answer = x; value = none }) (same-paint n id image (length pixels) k)
+    same-reply (paint n id image pixels k) = λ i. replyOf (same-paint n id image (length pixels) k i) (held (heldCount image pixels k (a .layout i .precision)))
 
     -- ---- a read
     read-cases : (n id : ℕ) (b : ElementBox) (xs : List ℤ) (v : Answer) → inOrder (readChecks (theirs n id) b (length xs) (length before)) ≡ v

@@ -18,17 +18,18 @@ use Rattle.layout.specs.Rules.{sizesValid, wholeAtoms, stridesValid, layoutChec
 use Rattle.layout.specs.Owners.{surfaceOf, rowOf, columnOf, byteInAtom, inAtom, atomOwner, owner}
 use Rattle.layout.specs.Contents.{packedByte, packed, editedByte, edited, readElement, boxElements}
 use Rattle.layout.specs.Calls.{packAnswer, packBuffer}
-use Rattle.integers.specs.Saturate.{saturate}
+use Rattle.integers.specs.Saturate.{saturate, beyond}
 use Rattle.pixels.specs.Formats.{formatTable, formatIn, formatOf}
 use Rattle.pixels.specs.Settings.{kindValid, stridesValid as pixelStrides, settingChecks, pixelPosition}
-use Rattle.quantize.specs.Quantize.{lowest, highest, quantizeChecks, quantized}
+use Rattle.quantize.specs.Quantize.{lowest, highest, quantizeChecks, nearestOf, nearest, rounded, quantized, limited}
 use Rattle.regions.specs.Slots.{rectangle, filled, slotOf, slotsOf, emptySlots, rectangleHas, occupied, anyFrom, overlaps, rectangleInside}
 use Rattle.regions.specs.Rules.{slotAt, isFilled, rectangleOf, idOf, placeChecks, boxInRectangle, slotChecks, regionBoxChecks, readChecks, editChecks, releaseChecks}
 use Rattle.regions.specs.Calls.{placeAnswer, placeTable, editAnswer, editBuffer, readAnswer, readElements, releaseAnswer, releaseTable, releaseBuffer}
 use Rattle.parlour.specs.Components.{componentBytes, componentValue, componentAt, component, paintedElements}
+use Rattle.parlour.specs.Counts.{total, heldOne, pixelHeld, rowHeld, heldCount}
 use Rattle.parlour.specs.Rules.{kindTaken, imageEnd, fillsRectangle, pictureChecks, targetChecks, paintChecks}
 use Rattle.parlour.specs.Calls.{paintAnswer, paintBuffer}
-use Rattle.history.specs.Program.{none, Shown, step, program}
+use Rattle.history.specs.Program.{none, held, Value, Shown, step, program}
 use Rattle.history.specs.Model.{PlainStep, boxWritten, boxRead, plainAnswer, plainStep, model, given}
 use Rattle.history.specs.Example.{layout, tensor, buffer, calls, shownOf}
 use Rattle.history.specs.Paintings as paintings
@@ -70,9 +71,17 @@ paintedBytes n = bytesAt (painting n) (0 ∷ 1 ∷ 2 ∷ 3 ∷ 32 ∷ 33 ∷ 34 
 abbrev pixelElements : List ℤ
 pixelElements = pos 3 ∷ negsuc 2 ∷ pos 127 ∷ negsuc 127 ∷ []
 
+-- of a refused painting, the accepted one, an edit, a refused painting after the release and the accepted one on that room: what they give beside their answers
+abbrev countedCalls : List ℕ
+countedCalls = 6 ∷ 7 ∷ 10 ∷ 13 ∷ 16 ∷ []
+
+abbrev heldCounts : List Value
+heldCounts = none ∷ held 2 ∷ none ∷ none ∷ held 2 ∷ []
+
 -- the packing; the answers, with the fault index of 7; reads before and after the release; and the bytes that the edits change, that a refused release leaves
 -- and that the accepted one clears. Of the list with paintings: the packing; the answers; what is read of the painted region, of the other, after the edit,
--- after the release and of the region painted anew; and the bytes that refused paintings leave, that the accepted one changes and that the release clears
+-- after the release and of the region painted anew; how many components the paintings held, which the refused ones do not tell; and the bytes that refused
+-- paintings leave, that the accepted one changes and that the release clears
 pub record Computed : Type 0 where
   pub packing : answerCode (packAnswer layout tensor (length buffer)) ≡ 0
   pub answers : answerCodes shownOf ≡ codes
@@ -94,13 +103,14 @@ pub record Computed : Type 0 where
   pub read-edited : painting 11 .elements ≡ pos 3 ∷ pos 9 ∷ pos 127 ∷ negsuc 127 ∷ []
   pub read-released : painting 15 .elements ≡ pos 0 ∷ pos 0 ∷ pos 0 ∷ pos 0 ∷ []
   pub read-anew : painting 17 .elements ≡ pixelElements
+  pub held-counts : map (λ (n : ℕ). painting n .reply .value) countedCalls ≡ heldCounts
   pub unpainted : paintedBytes 6 ≡ 1 ∷ 2 ∷ 3 ∷ 4 ∷ 5 ∷ 6 ∷ 7 ∷ 248 ∷ []
   pub painted : paintedBytes 7 ≡ 1 ∷ 2 ∷ 3 ∷ 4 ∷ 3 ∷ 253 ∷ 127 ∷ 128 ∷ []
   pub painting-cleared : paintedBytes 13 ≡ 1 ∷ 2 ∷ 3 ∷ 4 ∷ 0 ∷ 0 ∷ 0 ∷ 0 ∷ []
 
 -- the plain pictures of the same lists: of the first its answers; the raw tensor after each of the first two edits and after a refused one; what a read gives;
 -- and the raw tensor and the slots after the release, and what is read then. Of that with paintings its answers; the raw tensor after a refused painting, after
--- the accepted one, after the edit and after the release; and what is read of the painted region
+-- the accepted one, after the edit and after the release; what is read of the painted region; and the counts
 abbrev plain : List PlainStep
 plain = model layout (length buffer) (given tensor) calls
 
@@ -131,6 +141,7 @@ pub record Pictured : Type 0 where
   pub read-zeros : nthPlain 24 .elements ≡ pos 0 ∷ pos 0 ∷ pos 0 ∷ pos 0 ∷ []
   pub read-new : nthPlain 26 .elements ≡ pos 0 ∷ pos 0 ∷ pos 3 ∷ pos 0 ∷ []
   pub painting-answers : plainCodes plainPaintings ≡ paintingCodes
+  pub held-counts : map (λ (n : ℕ). plainPainting n .reply .value) countedCalls ≡ heldCounts
   pub unpainted : plainPainting 6 .state .raw ≡ paintings.tensor
   pub painted : plainPainting 7 .state .raw ≡ pos 1 ∷ pos 3 ∷ pos 2 ∷ negsuc 2 ∷ pos 3 ∷ pos 127 ∷ pos 4 ∷ negsuc 127 ∷ []
   pub read-painted : plainPainting 8 .elements ≡ pixelElements
@@ -138,7 +149,7 @@ pub record Pictured : Type 0 where
   pub painting-released : plainPainting 13 .state .raw ≡ pos 1 ∷ pos 0 ∷ pos 2 ∷ pos 0 ∷ pos 3 ∷ pos 0 ∷ pos 4 ∷ pos 0 ∷ []
 
 pub computed : Computed
-unfolding requireAt inOrder leaves elementBytes byteOf wordAt signed elementAt remadeFrom remade tabulateFrom tabulate valueValid valueCheck valueChecksFrom valueChecks elementCount rawIndex surfaces elementPosition cubeExtent boxCount spanInside spanHas boxHas boxIndex channelAt rowAt columnAt sizeValid sizesValid wholeAtoms stridesValid layoutChecks storageChecks cubeChecks surfaceOf rowOf columnOf byteInAtom inAtom atomOwner owner packedByte packed editedByte edited readElement boxElements packAnswer packBuffer slotOf slotsOf rectangleHas occupied anyFrom overlaps rectangleInside slotAt isFilled rectangleOf idOf placeChecks boxInRectangle slotChecks regionBoxChecks readChecks editChecks releaseChecks placeAnswer placeTable editAnswer editBuffer readAnswer readElements releaseAnswer releaseTable releaseBuffer saturate formatTable formatIn formatOf kindValid pixelStrides settingChecks pixelPosition lowest highest quantizeChecks quantized componentBytes componentValue componentAt component paintedElements kindTaken imageEnd fillsRectangle pictureChecks targetChecks paintChecks paintAnswer paintBuffer step program calls paintings.calls
+unfolding requireAt inOrder leaves elementBytes byteOf wordAt signed elementAt remadeFrom remade tabulateFrom tabulate valueValid valueCheck valueChecksFrom valueChecks elementCount rawIndex surfaces elementPosition cubeExtent boxCount spanInside spanHas boxHas boxIndex channelAt rowAt columnAt sizeValid sizesValid wholeAtoms stridesValid layoutChecks storageChecks cubeChecks surfaceOf rowOf columnOf byteInAtom inAtom atomOwner owner packedByte packed editedByte edited readElement boxElements packAnswer packBuffer slotOf slotsOf rectangleHas occupied anyFrom overlaps rectangleInside slotAt isFilled rectangleOf idOf placeChecks boxInRectangle slotChecks regionBoxChecks readChecks editChecks releaseChecks placeAnswer placeTable editAnswer editBuffer readAnswer readElements releaseAnswer releaseTable releaseBuffer saturate beyond formatTable formatIn formatOf kindValid pixelStrides settingChecks pixelPosition lowest highest quantizeChecks nearestOf nearest rounded quantized limited componentBytes componentValue componentAt component paintedElements total heldOne pixelHeld rowHeld heldCount kindTaken imageEnd fillsRectangle pictureChecks targetChecks paintChecks paintAnswer paintBuffer step program calls paintings.calls
 computed =
     record {
       packing = refl;
@@ -161,13 +172,14 @@ computed =
       read-edited = refl;
       read-released = refl;
       read-anew = refl;
+      held-counts = refl;
       unpainted = refl;
       painted = refl;
       painting-cleared = refl;
     }
 
 pub pictured : Pictured
-unfolding requireAt inOrder leaves elementBytes byteOf wordAt signed elementAt remadeFrom remade tabulateFrom tabulate valueValid valueCheck valueChecksFrom valueChecks elementCount rawIndex surfaces elementPosition cubeExtent boxCount spanInside spanHas boxHas boxIndex channelAt rowAt columnAt sizeValid sizesValid wholeAtoms stridesValid layoutChecks storageChecks cubeChecks surfaceOf rowOf columnOf byteInAtom inAtom atomOwner owner packedByte packed editedByte edited readElement boxElements packAnswer packBuffer slotOf slotsOf rectangleHas occupied anyFrom overlaps rectangleInside slotAt isFilled rectangleOf idOf placeChecks boxInRectangle slotChecks regionBoxChecks readChecks editChecks releaseChecks emptySlots saturate formatTable formatIn formatOf kindValid pixelStrides settingChecks pixelPosition lowest highest quantizeChecks quantized componentBytes componentValue componentAt component paintedElements kindTaken imageEnd fillsRectangle pictureChecks targetChecks paintChecks boxWritten boxRead plainAnswer plainStep model calls paintings.calls
+unfolding requireAt inOrder leaves elementBytes byteOf wordAt signed elementAt remadeFrom remade tabulateFrom tabulate valueValid valueCheck valueChecksFrom valueChecks elementCount rawIndex surfaces elementPosition cubeExtent boxCount spanInside spanHas boxHas boxIndex channelAt rowAt columnAt sizeValid sizesValid wholeAtoms stridesValid layoutChecks storageChecks cubeChecks surfaceOf rowOf columnOf byteInAtom inAtom atomOwner owner packedByte packed editedByte edited readElement boxElements packAnswer packBuffer slotOf slotsOf rectangleHas occupied anyFrom overlaps rectangleInside slotAt isFilled rectangleOf idOf placeChecks boxInRectangle slotChecks regionBoxChecks readChecks editChecks releaseChecks emptySlots saturate beyond formatTable formatIn formatOf kindValid pixelStrides settingChecks pixelPosition lowest highest quantizeChecks nearestOf nearest rounded quantized limited componentBytes componentValue componentAt component paintedElements total heldOne pixelHeld rowHeld heldCount kindTaken imageEnd fillsRectangle pictureChecks targetChecks paintChecks boxWritten boxRead plainAnswer plainStep model calls paintings.calls
 pictured =
     record {
       answers = refl;
@@ -181,6 +193,7 @@ pictured =
       read-zeros = refl;
       read-new = refl;
       painting-answers = refl;
+      held-counts = refl;
       unpainted = refl;
       painted = refl;
       read-painted = refl;

@@ -18,8 +18,9 @@ use Rattle.layout.specs.Calls.{packBuffer}
 use Rattle.regions.specs.Slots.{Slot, empty, filled, emptySlots}
 use Rattle.regions.specs.Rules.{Access, access, regionBox, wholeRegion, placeChecks, readChecks, editChecks, releaseChecks}
 use Rattle.parlour.specs.Components.{paintedElements}
+use Rattle.parlour.specs.Counts.{heldCount}
 use Rattle.parlour.specs.Rules.{paintChecks}
-use Rattle.history.specs.Program.{Call, place, edit, read, release, paint, none, Reply, Shown}
+use Rattle.history.specs.Program.{Call, place, edit, read, release, paint, none, held, Reply, replyOf, Shown}
 
 -- the raw tensor with elements written at a box, in raw order over the box
 unfoldable pub boxWritten : CubeLayout → ElementBox → List ℤ → List ℤ → List ℤ
@@ -47,9 +48,12 @@ pub record PlainStep : Type 0 where
   pub elements : List ℤ
   pub state : Plain
 
+abbrev pub plainStepWith : Reply → List ℤ → List ℤ → List Slot → PlainStep
+plainStepWith reply elements raw slots = record { reply = reply; elements = elements; state = record { raw = raw; slots = slots } }
+
 -- the step of a call that gives no value
 abbrev pub plainStepOf : Answer → List ℤ → List ℤ → List Slot → PlainStep
-plainStepOf answer elements raw slots = record { reply = record { answer = answer; value = none }; elements = elements; state = record { raw = raw; slots = slots } }
+plainStepOf answer elements raw slots = plainStepWith (record { answer = answer; value = none }) elements raw slots
 
 module _ (q : CubeLayout) (len : ℕ) where
   -- what a call through slot n with an id goes by
@@ -65,7 +69,7 @@ module _ (q : CubeLayout) (len : ℕ) where
   plainAnswer s (paint n id image pixels k) = inOrder (paintChecks (named s n id) image (k .shift) (length pixels) len)
 
   -- one call: refused, it changes nothing; a release is an edit of zeros to the whole region, and empties the slot; a painting is an edit of the converted
-  -- components to the whole region
+  -- components to the whole region, and its reply tells how many of them were held at a limit
   unfoldable pub plainStep : Plain → Call → PlainStep
   plainStep s (place n id g) = let a = plainAnswer s (place n id g) in plainStepOf a [] (s .raw) (leaves a (set (s .slots) n (filled id g)) (s .slots))
   plainStep s (edit n id b xs) = let a = plainAnswer s (edit n id b xs) in plainStepOf a xs (leaves a (boxWritten q (regionBox (named s n id) b) xs (s .raw)) (s .raw)) (s .slots)
@@ -77,7 +81,8 @@ module _ (q : CubeLayout) (len : ℕ) where
   plainStep s (paint n id image pixels k) =
       let a = plainAnswer s (paint n id image pixels k) in
       let box = regionBox (named s n id) (wholeRegion (named s n id)) in
-      plainStepOf a [] (leaves a (boxWritten q box (paintedElements image pixels k (q .precision)) (s .raw)) (s .raw)) (s .slots)
+      let reply = replyOf a (held (heldCount image pixels k (q .precision))) in
+      plainStepWith reply [] (leaves a (boxWritten q box (paintedElements image pixels k (q .precision)) (s .raw)) (s .raw)) (s .slots)
 
   -- what the model gives after each call of a list
   unfoldable pub model : Plain → List Call → List PlainStep

@@ -1,4 +1,4 @@
--- A second list of calls to follow by hand, with paintings (change request K3): a cube of 2 columns, 1 row and 4 channels of int8 in 64 bytes, pictures of
+-- A second list of calls to follow by hand, with paintings (change requests K3, K5): a cube of 2 columns, 1 row and 4 channels of int8 in 64 bytes, pictures of
 -- one row, a refusal of a picture, of a conversion and of a region, and an edit and a release of what was painted. Assumes nothing.
 use Prim.Native.Nat.{ℕ}
 use mathlib.Core.List.{List, [], _∷_, _++_}
@@ -31,7 +31,7 @@ colours width = picture 12 4 width
 abbrev grey : PixelSetting
 grey = picture 0 1 1
 
--- one pixel; (d - 128) * 3 over 2 makes its components 3, -3, 190 and -192, of which the last two are held to 127 and -128
+-- one pixel; (d - 128) * 3 over 2 makes its components 3, -3, 191 (190.5 to the nearest) and -192, of which the last two are held to 127 and -128
 abbrev pixel : List ℕ
 pixel = 130 ∷ 126 ∷ 255 ∷ 0 ∷ []
 

@@ -1,11 +1,15 @@
 -- A list of calls, and what the program does at each: the promises of `begin`, `place`, `edit`, `read`, `release` and `paint` cite these steps, and the
--- fold goes from one to the next (scope paper, "The plain picture"; change requests K1, K3). Assumes nothing.
+-- fold goes from one to the next (scope paper, "The plain picture"; change requests K1, K3, K5). Assumes nothing.
 use Prim.Native.Nat.{ℕ}
 use mathlib.Core.List.{List, [], _∷_}
 use lib.ListN.{length}
 use lib.IntN.{ℤ}
 pub use Rattle.elements.specs.Values.{SixteenBit}
 use Rattle.refusal.specs.declared.Answer.{Answer}
+use Rattle.refusal.specs.declared.Answer.the-variants.{Accepted, Refused}
+use Rattle.refusal.specs.declared.Quantity.{Quantity}
+use Rattle.refusal.specs.declared.Quantity.the-variants.{Is, Refused as NotGiven}
+use Rattle.refusal.specs.Checks.{leaves}
 use Rattle.layout.specs.declared.CubeLayout.{CubeLayout}
 use Rattle.layout.specs.declared.ElementBox.{ElementBox}
 use Rattle.layout.specs.Calls.{packAnswer, packBuffer}
@@ -15,6 +19,7 @@ use Rattle.regions.specs.declared.RegionTable.{RegionTable}
 use Rattle.regions.specs.Slots.{Slot, slotsOf}
 use Rattle.regions.specs.Calls.{emptyTable, placeAnswer, placeTable, editAnswer, editBuffer, readAnswer, readElements, releaseAnswer, releaseTable, releaseBuffer}
 use Rattle.parlour.specs.declared.Conversion.{Conversion}
+use Rattle.parlour.specs.Counts.{heldCount}
 use Rattle.parlour.specs.Calls.{paintAnswer, paintBuffer}
 
 -- a call with its arguments, save the table and the buffer: the slot, the owner's id, and what else it gives; the elements, and the pixel buffer of a
@@ -39,13 +44,23 @@ unfoldable pub LendsSixteenBit : List Call → Type 0
 LendsSixteenBit [] = Unit {0}
 LendsSixteenBit (c ∷ calls) = SixteenBit (lends c) × LendsSixteenBit calls
 
--- what a call gives beside its answer; these calls give no value
+-- what a call gives beside its answer: an accepted painting how many components were held at a limit, every other call no value
 pub data Value : Type 0 where
   none : Value
+  held : ℕ → Value
 
 pub record Reply : Type 0 where
   pub answer : Answer
   pub value : Value
+
+-- the reply of a call that gives a value where it is accepted
+abbrev pub replyOf : Answer → Value → Reply
+replyOf answer value = record { answer = answer; value = leaves answer value none }
+
+-- that of a painting, as its call gives it
+abbrev pub heldReply : Quantity → Reply
+heldReply (Is n) = record { answer = Accepted; value = held n }
+heldReply (NotGiven r at) = record { answer = Refused r at; value = none }
 
 -- what the program keeps between calls
 pub record State : Type 0 where
@@ -61,9 +76,12 @@ pub record Step : Type 0 where
   pub elements : List ℤ
   pub state : State
 
+abbrev pub stepWith : Reply → List ℤ → RegionTable → List ℕ → Step
+stepWith reply elements table buffer = record { reply = reply; elements = elements; state = stateOf table buffer }
+
 -- the step of a call that gives no value
 abbrev pub stepOf : Answer → List ℤ → RegionTable → List ℕ → Step
-stepOf answer elements table buffer = record { reply = record { answer = answer; value = none }; elements = elements; state = stateOf table buffer }
+stepOf answer elements table buffer = stepWith (record { answer = answer; value = none }) elements table buffer
 
 -- a raw tensor is packed over `before`, and the table is the empty one of the same layout
 abbrev pub beginning : CubeLayout → List ℤ → List ℕ → Step
@@ -76,7 +94,8 @@ step s (edit n id b xs) = stepOf (editAnswer (s .table) n id b xs (length (s .bu
 step s (read n id b xs) = stepOf (readAnswer (s .table) n id b (length xs) (length (s .buffer))) (readElements (s .table) n id b (s .buffer) xs) (s .table) (s .buffer)
 step s (release n id) = stepOf (releaseAnswer (s .table) n id (length (s .buffer))) [] (releaseTable (s .table) n id (length (s .buffer))) (releaseBuffer (s .table) n id (s .buffer))
 step s (paint n id image pixels k) =
-    stepOf (paintAnswer (s .table) n id image (length pixels) k (length (s .buffer))) [] (s .table) (paintBuffer (s .table) n id image pixels k (s .buffer))
+    let a = paintAnswer (s .table) n id image (length pixels) k (length (s .buffer)) in
+    stepWith (replyOf a (held (heldCount image pixels k (s .table .layout .precision)))) [] (s .table) (paintBuffer (s .table) n id image pixels k (s .buffer))
 
 -- the program's state after a list of calls
 unfoldable pub runTo : State → List Call → State

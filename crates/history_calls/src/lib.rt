@@ -1,11 +1,12 @@
 // The beginning of a list of calls, and one call of it: the calls of `cube`, `regions` and `parlour` themselves, whose promises are here the fold's steps
-// (history/specs/Program.antt). So the theorem about lists (history/proofs/Claims.antt) is about these calls (scope paper, "The plain picture"; change requests K1, K3).
+// (history/specs/Program.antt). So the theorem about lists (history/proofs/Claims.antt) is about these calls (scope paper, "The plain picture"; change requests K1, K3, K5).
 ghost use mathlib.Core.Path.{_≡_};
 ghost use mathlib.Core.List.{[]};
-ghost use Rattle.history.specs.Program.{stateOf, stepOf, beginning, step, Call};
+ghost use Rattle.history.specs.Program.{stateOf, stepOf, stepWith, heldReply, beginning, step, Call};
 use layout::CubeLayout;
 use layout::ElementBox;
 use parlour::Conversion;
+use parlour::PaintOutcome;
 use pixels::PixelSetting;
 use regions::Outcome;
 use regions::Rectangle;
@@ -80,8 +81,8 @@ pub fn paint(
     pixels: &[u8],
     conversion: Conversion,
     buffer: &mut [u8],
-) -> Outcome
-    ensures { λ r. ⌜ stepOf (r .answer) [] (r .table) (now (buffer .exit)) ≡ step (stateOf table (now (buffer .entry))) (Call.paint slot id image (now (pixels .entry)) conversion) ⌝ }
+) -> PaintOutcome
+    ensures { λ r. ⌜ stepWith (heldReply (r .held)) [] (r .table) (now (buffer .exit)) ≡ step (stateOf table (now (buffer .entry))) (Call.paint slot id image (now (pixels .entry)) conversion) ⌝ }
 {
     parlour_calls::paint(table, slot, id, image, pixels, conversion, buffer)
 }

@@ -3,15 +3,29 @@
 --     saturate-cases                                 what holds of all three holds of the answer
 --     saturate-kept                                  a number in low..high stays
 --     fits-saturate                                  where the limits fit a type, the answer does
-use mathlib.Core.Path.{_≡_, refl, subst⁻¹}
-use mathlib.Core.Bool.{Bool, true, false}
+--     beyond-low, beyond-high                        beyond a limit or not, by the tests
+--     within-same, beyond-other                      a number that is not beyond stays, one that is does not
+use native.Mathlib.Omega.{arith}
+use mathlib.Core.Path.{_≡_, refl, sym, ap, subst, subst⁻¹, _∙_}
+use mathlib.Core.Bool.{Bool, true, false, _||_}
+use lib.Dec.{T}
 use lib.IntN.{ℤ}
 use lib.Signed.{ltZ, _≤ℤ_}
 use mir.Syntax.{Width}
 use mir.Val.{SFits}
-use Rattle.general.proofs.UpDown.{ltZ-false, le-ltZ, le-ud, ud-le}
+use Rattle.general.proofs.UpDown.{up, dn, ltZ-true, ltZ-false, le-ltZ, le-ud, ud-le}
 use Rattle.general.proofs.Ranges.{fits-between}
-use Rattle.integers.specs.Saturate.{saturate}
+use Rattle.integers.specs.Saturate.{saturate, beyond}
+
+true-false : true ≡ false → ⊥
+true-false e = subst (λ (t : Bool). T t) e tt
+
+-- no number is less than itself
+before-itself : {a z : ℤ} → a ≡ z → ltZ z a ≡ true → ⊥
+before-itself {a} {z} e t = omega (arith, ltZ-true z a t, ap up e, ap dn e)
+
+behind-itself : {a z : ℤ} → a ≡ z → ltZ a z ≡ true → ⊥
+behind-itself {a} {z} e t = omega (arith, ltZ-true a z t, ap up e, ap dn e)
 
 module _ (low high z : ℤ) where
   pub saturate-low : ltZ z low ≡ true → saturate low high z ≡ low
@@ -25,6 +39,14 @@ module _ (low high z : ℤ) where
   pub saturate-same : ltZ z low ≡ false → ltZ high z ≡ false → saturate low high z ≡ z
   unfolding saturate
   saturate-same e f = rw (e, f)
+
+  pub beyond-low : ltZ z low ≡ true → true ≡ beyond low high z
+  unfolding beyond
+  beyond-low e = rw e
+
+  pub beyond-high : ltZ z low ≡ false → ltZ high z ≡ beyond low high z
+  unfolding beyond
+  beyond-high e = rw e
 
   module _ (P : ℤ → Type 0) (lower : P low) (upper : P high) (inside : low ≤ℤ z → z ≤ℤ high → P z) where
     by-high : (t : Bool) → ltZ z low ≡ false → ltZ high z ≡ t → P (saturate low high z)
@@ -40,6 +62,25 @@ module _ (low high z : ℤ) where
 
   pub saturate-kept : low ≤ℤ z → z ≤ℤ high → saturate low high z ≡ z
   saturate-kept f g = saturate-same (le-ltZ z low (le-ud f)) (le-ltZ high z (le-ud g))
+
+  -- by the two tests
+  same-by : (below above : Bool) → ltZ z low ≡ below → ltZ high z ≡ above → below || above ≡ false → saturate low high z ≡ z
+  same-by false false e f none = saturate-same e f
+  same-by false true e f none = absurd (true-false none)
+  same-by true above e f none = absurd (true-false none)
+
+  other-by : (below above : Bool) → ltZ z low ≡ below → ltZ high z ≡ above → below || above ≡ true → saturate low high z ≡ z → ⊥
+  other-by true above e f some same = before-itself (sym (saturate-low e) ∙ same) e
+  other-by false true e f some same = behind-itself (sym (saturate-high e f) ∙ same) f
+  other-by false false e f some same = true-false (sym some)
+
+  pub within-same : beyond low high z ≡ false → saturate low high z ≡ z
+  unfolding beyond
+  within-same = same-by (ltZ z low) (ltZ high z) refl refl
+
+  pub beyond-other : beyond low high z ≡ true → saturate low high z ≡ z → ⊥
+  unfolding beyond
+  beyond-other = other-by (ltZ z low) (ltZ high z) refl refl
 
 pub fits-saturate : {w : Width} {low high : ℤ} (z : ℤ) → SFits w low → SFits w high → SFits w (saturate low high z)
 fits-saturate {w} {low} {high} z f g = saturate-cases low high z (λ r. SFits w r) f g (fits-between f g)

@@ -1,5 +1,5 @@
 // Answers as numbers: what a call returns, and what it stores.
-ghost use Rattle.olsketina.specs.Answers.{Answered, Valued, Converted};
+ghost use Rattle.olsketina.specs.Answers.{Answered, Valued, ConversionGiven};
 use quantize::Quantized;
 use refusal::Answer;
 use refusal::Quantity;
@@ -25,14 +25,21 @@ pub(crate) fn give_quantity(quantity: Quantity, value: &mut u64, fault: &mut usi
     }
 }
 
-// The number of a conversion's answer; its index at fault is stored, and the value where there is one.
-pub(crate) fn give_converted(converted: Quantized, value: &mut i16, fault: &mut usize) -> u32
-    ensures { λ r. ⌜ Converted converted (now (value .entry)) r (now (value .exit)) (now (fault .exit)) ⌝ }
+// The number of a conversion's answer; its index at fault is stored, and where there is a value, it and whether it was held.
+pub(crate) fn give_converted(
+    converted: Quantized,
+    value: &mut i16,
+    held: &mut u32,
+    fault: &mut usize,
+) -> u32
+    ensures { λ r. ⌜ ConversionGiven converted (now (value .entry)) (now (held .entry)) r (now (value .exit)) (now (held .exit)) (now (fault .exit)) ⌝ }
 {
     match converted {
         Quantized::Refused(refusal, at) => give(Answer::Refused(refusal, at), fault),
-        Quantized::Value(n) => {
-            *value = n;
+        Quantized::Value(c) => {
+            let v = c.value;
+            *value = v;
+            *held = c.held as u32;
             give(Answer::Accepted, fault)
         }
     }

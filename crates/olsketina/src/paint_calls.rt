@@ -1,8 +1,8 @@
 // A camera's picture painted into a region.
 ghost use mathlib.Core.Path.{_≡_};
 ghost use lib.ListN.{length};
-ghost use Rattle.parlour.specs.Calls.{paintAnswer, paintBuffer};
-ghost use Rattle.olsketina.specs.Answers.{Answered};
+ghost use Rattle.parlour.specs.Calls.{paintHeld, paintBuffer};
+ghost use Rattle.olsketina.specs.Answers.{Valued};
 ghost use Rattle.olsketina.specs.Words.{imageFrom, conversionOf};
 ghost use Rattle.olsketina.specs.Tables.{tableAt};
 use crate::answers;
@@ -24,9 +24,10 @@ pub extern "C" fn olsketina_parlour_paint(
     scale: i16,
     shift: u32,
     buffer: &mut [u8],
+    held: &mut u64,
     fault: &mut usize,
 ) -> u32
-    ensures answered { λ r. ⌜ Answered (paintAnswer (tableAt (now (table .entry)) 0) slot id (imageFrom (now (image .entry))) (length (now (pixels .entry))) (conversionOf offset scale shift) (length (now (buffer .entry)))) r (now (fault .exit)) ⌝ }
+    ensures counted { λ r. ⌜ Valued (paintHeld (tableAt (now (table .entry)) 0) slot id (imageFrom (now (image .entry))) (now (pixels .entry)) (conversionOf offset scale shift) (length (now (buffer .entry)))) (now (held .entry)) r (now (held .exit)) (now (fault .exit)) ⌝ }
     ensures left { λ r. ⌜ now (buffer .exit) ≡ paintBuffer (tableAt (now (table .entry)) 0) slot id (imageFrom (now (image .entry))) (now (pixels .entry)) (conversionOf offset scale shift) (now (buffer .entry)) ⌝ }
 {
     let t = tables::table_at(table, 0);
@@ -37,6 +38,6 @@ pub extern "C" fn olsketina_parlour_paint(
     };
     let picture = words::image_of(image);
     let o = parlour_calls::paint(t, slot, id, picture, pixels, conversion, buffer);
-    let answer = o.answer;
-    answers::give(answer, fault)
+    let count = o.held;
+    answers::give_quantity(count, held, fault)
 }

@@ -1,7 +1,7 @@
 // Pixel images, and integer conversion.
 ghost use Rattle.pixels.specs.Settings.{settingAnswer, positionQuantity};
 ghost use Rattle.quantize.specs.Quantize.{quantizeAnswer};
-ghost use Rattle.olsketina.specs.Answers.{Answered, Valued, Converted};
+ghost use Rattle.olsketina.specs.Answers.{Answered, Valued, ConversionGiven};
 ghost use Rattle.olsketina.specs.Words.{imageFrom};
 use crate::answers;
 use crate::words;
@@ -40,10 +40,11 @@ pub extern "C" fn olsketina_quantize_convert(
     shift: u32,
     precision: u32,
     value: &mut i16,
+    held: &mut u32,
     fault: &mut usize,
 ) -> u32
-    ensures { λ r. ⌜ Converted (quantizeAnswer d offset scale shift precision) (now (value .entry)) r (now (value .exit)) (now (fault .exit)) ⌝ }
+    ensures { λ r. ⌜ ConversionGiven (quantizeAnswer d offset scale shift precision) (now (value .entry)) (now (held .entry)) r (now (value .exit)) (now (held .exit)) (now (fault .exit)) ⌝ }
 {
     let converted = quantize::convert(d, offset, scale, shift, precision);
-    answers::give_converted(converted, value, fault)
+    answers::give_converted(converted, value, held, fault)
 }

@@ -1,15 +1,18 @@
--- Pictures painted, computed (change request K3); of two faults at once the earlier in the order is told ("Refusal numbers": "Orders"). Assumes nothing.
+-- Pictures painted and their held components counted, computed (change requests K3, K5); of two faults at once the earlier in the order is told ("Refusal numbers": "Orders"). Assumes nothing.
 use Prim.Native.Nat.{ℕ}
 use mathlib.Core.Path.{_≡_, refl}
 use mathlib.Core.List.{List, [], _∷_, _++_, map}
 use lib.IntN.{ℤ, pos}
-use lib.ListN.{replicate}
+use lib.ListN.{replicate, take}
+use Rattle.refusal.specs.declared.Quantity.{Quantity}
+use Rattle.refusal.specs.declared.Quantity.the-variants.{Is, Refused as NotGiven}
+use Rattle.refusal.specs.declared.Refusal.the-variants.{BufferLength, OwnerId, PixelLength}
 use Rattle.refusal.specs.Codes.{answerCode}
-use Rattle.refusal.specs.Checks.{requireAt, inOrder, leaves}
+use Rattle.refusal.specs.Checks.{requireAt, inOrder, leaves, result}
 use Rattle.refusal.specs.Sizes.{sizeValid}
 use Rattle.elements.specs.Bytes.{elementBytes, byteOf, wordAt, signed}
 use Rattle.elements.specs.Lists.{remadeFrom, remade, tabulateFrom, tabulate}
-use Rattle.integers.specs.Saturate.{saturate}
+use Rattle.integers.specs.Saturate.{saturate, beyond}
 use Rattle.layout.specs.declared.CubeLayout.{CubeLayout}
 use Rattle.layout.specs.Geometry.{layoutOf, surfaces, cubeExtent}
 use Rattle.layout.specs.Boxes.{boxCount, spanInside, spanHas, boxHas, boxIndex, channelAt, rowAt, columnAt}
@@ -19,15 +22,16 @@ use Rattle.layout.specs.Contents.{editedByte, edited}
 use Rattle.pixels.specs.declared.PixelSetting.{PixelSetting}
 use Rattle.pixels.specs.Formats.{formatTable, formatIn, formatOf}
 use Rattle.pixels.specs.Settings.{kindValid, stridesValid as linesValid, settingChecks, pixelPosition}
-use Rattle.quantize.specs.Quantize.{lowest, highest, quantizeChecks, quantized}
+use Rattle.quantize.specs.Quantize.{lowest, highest, quantizeChecks, nearestOf, nearest, rounded, quantized, limited}
 use Rattle.regions.specs.declared.RegionTable.{RegionTable}
 use Rattle.regions.specs.Slots.{rectangle, slotOf, slotsOf, rectangleHas, occupied, anyFrom, overlaps, rectangleInside}
 use Rattle.regions.specs.Rules.{slotAt, isFilled, rectangleOf, idOf, placeChecks, boxInRectangle, slotChecks, regionBoxChecks}
 use Rattle.regions.specs.Calls.{emptyTable, placedRegion, placeAnswer, placeTable}
 use Rattle.parlour.specs.declared.Conversion.{Conversion}
 use Rattle.parlour.specs.Components.{componentBytes, componentValue, componentAt, component, paintedElements}
+use Rattle.parlour.specs.Counts.{total, heldOne, pixelHeld, rowHeld, heldCount}
 use Rattle.parlour.specs.Rules.{kindTaken, imageEnd, fillsRectangle, pictureChecks, targetChecks, paintChecks}
-use Rattle.parlour.specs.Calls.{paintAnswer, paintBuffer}
+use Rattle.parlour.specs.Calls.{paintAnswer, paintHeld, paintBuffer}
 
 -- format, width, height, channels, precision, X offset, start, line
 abbrev image : ℕ → ℕ → ℕ → ℕ → ℕ → ℕ → ℕ → ℕ → PixelSetting
@@ -36,12 +40,15 @@ image f w h c p x start line = record { format = f; width = w; height = h; chann
 abbrev conversion : ℤ → ℤ → ℕ → Conversion
 conversion offset scale shift = record { offset = offset; scale = scale; shift = shift }
 
--- as it is, and 128 less
+-- as it is, 128 less, and that doubled
 abbrev plain : Conversion
 plain = conversion (pos 0) (pos 1) 0
 
 abbrev centred : Conversion
 centred = conversion (pos 128) (pos 1) 0
+
+abbrev doubled : Conversion
+doubled = conversion (pos 128) (pos 2) 0
 
 -- a frame of 3 columns, 2 rows and 4 channels of int8; the region of owner 7 is its columns 1 and 2, both rows
 abbrev frame : CubeLayout
@@ -71,6 +78,10 @@ one f = image f 1 1 1 1 0 0 32
 abbrev after : ℕ → ℕ → List ℕ → List ℕ
 after p f bytes = paintBuffer (single p) 0 3 (one f) bytes plain (replicate 32 7)
 
+-- how many components a painting of the camera's picture holds, by an owner, from so many bytes of pixels and into so many of the frame
+abbrev holding : ℕ → List ℕ → Conversion → ℕ → Quantity
+holding id bytes k len = paintHeld table 0 id camera bytes k len
+
 -- a table made by hand: its region is not in the frame
 abbrev by-hand : RegionTable
 by-hand = record { layout = frame; slots = placedRegion 7 (rectangle 2 0 2 2) ∷ [] }
@@ -96,6 +107,14 @@ pub record Computed : Type 0 where
   -- ff ff is 4095 in T_R12, and 1023 in T_R10
   pub twelve : after 1 2 (255 ∷ 255 ∷ []) ≡ 255 ∷ 15 ∷ replicate 30 7
   pub ten : after 1 1 (255 ∷ 255 ∷ []) ≡ 255 ∷ 3 ∷ replicate 30 7
+  -- doubled, 0, 255, 1 of one pixel and 200, 50, 0, 255 of another are beyond the limits: seven components, and no byte before or behind the pixels; 128 less
+  -- is -128 and 127 at most, on the limits, and nothing is held
+  pub counted : holding 7 pixels doubled 192 ≡ Is 7
+  pub on-limits : holding 7 pixels centred 192 ≡ Is 0
+  -- a refused painting has no count: another owner, a pixel byte too few, a byte of the frame too few
+  pub uncounted : holding 8 pixels doubled 192 ∷ holding 7 (take 43 pixels) doubled 192 ∷ holding 7 pixels doubled 191 ∷ [] ≡ NotGiven OwnerId 0 ∷ NotGiven PixelLength 0 ∷ NotGiven BufferLength 0 ∷ []
+  -- 300 is beyond int8 and not beyond int16: the frame's precision counts, not the picture's
+  pub by-precision : map (λ (p : ℕ). paintHeld (single p) 0 3 (one 3) (44 ∷ 1 ∷ []) plain 32) (0 ∷ 1 ∷ []) ≡ Is 1 ∷ Is 0 ∷ []
   -- the last pixel ends at byte 44: 43 bytes are 30; one pixel T_R8 with a line of 32 needs one byte
   pub end : imageEnd camera ≡ 44
   pub length : asking table 7 camera 44 0 192 ∷ asking table 7 camera 43 0 192 ∷ [] ≡ 0 ∷ 30 ∷ []
@@ -130,7 +149,7 @@ pub record Computed : Type 0 where
       ≡ 25 ∷ 9 ∷ 25 ∷ 9 ∷ 9 ∷ 5 ∷ []
 
 pub computed : Computed
-unfolding requireAt inOrder leaves sizeValid elementBytes byteOf wordAt signed remadeFrom remade tabulateFrom tabulate saturate surfaces cubeExtent boxCount spanInside spanHas boxHas boxIndex channelAt rowAt columnAt sizesValid wholeAtoms stridesValid layoutChecks surfaceOf rowOf columnOf byteInAtom inAtom atomOwner owner editedByte edited formatTable formatIn formatOf kindValid linesValid settingChecks pixelPosition lowest highest quantizeChecks quantized slotOf slotsOf rectangleHas occupied anyFrom overlaps rectangleInside slotAt isFilled rectangleOf idOf placeChecks boxInRectangle slotChecks regionBoxChecks placeAnswer placeTable componentBytes componentValue componentAt component paintedElements kindTaken imageEnd fillsRectangle pictureChecks targetChecks paintChecks paintAnswer paintBuffer
+unfolding requireAt inOrder leaves result sizeValid elementBytes byteOf wordAt signed remadeFrom remade tabulateFrom tabulate saturate beyond surfaces cubeExtent boxCount spanInside spanHas boxHas boxIndex channelAt rowAt columnAt sizesValid wholeAtoms stridesValid layoutChecks surfaceOf rowOf columnOf byteInAtom inAtom atomOwner owner editedByte edited formatTable formatIn formatOf kindValid linesValid settingChecks pixelPosition lowest highest quantizeChecks nearestOf nearest rounded quantized limited slotOf slotsOf rectangleHas occupied anyFrom overlaps rectangleInside slotAt isFilled rectangleOf idOf placeChecks boxInRectangle slotChecks regionBoxChecks placeAnswer placeTable componentBytes componentValue componentAt component paintedElements total heldOne pixelHeld rowHeld heldCount kindTaken imageEnd fillsRectangle pictureChecks targetChecks paintChecks paintAnswer paintHeld paintBuffer
 computed =
     record {
       painted = refl;
@@ -140,6 +159,10 @@ computed =
       held = refl;
       twelve = refl;
       ten = refl;
+      counted = refl;
+      on-limits = refl;
+      uncounted = refl;
+      by-precision = refl;
       end = refl;
       length = refl;
       byte = refl;

@@ -9,8 +9,8 @@ use mathlib.Core.Path.{_≡_, subst, subst⁻¹}
 use mathlib.Core.Bool.{true}
 use mathlib.Core.List.{List}
 use lib.ListN.{length, getD, List·getD-eq-default}
-use lib.IntN.{ℤ, pos, _-ℤ_, _*ℤ_}
-use lib.Signed.{mag, shrZ}
+use lib.IntN.{ℤ, pos}
+use lib.Signed.{mag}
 use mir.Syntax.{w8}
 use mir.Facts.{sfits-lit}
 use Rattle.refusal.specs.declared.Answer.the-variants.{Accepted}
@@ -22,7 +22,7 @@ use Rattle.elements.proofs.ValueLaws.{fits-valueValid, valueChecks-all}
 use Rattle.integers.proofs.SaturateLaws.{fits-saturate}
 use Rattle.layout.specs.Boxes.{boxCount, channelAt, rowAt, columnAt}
 use Rattle.pixels.specs.declared.PixelSetting.{PixelSetting}
-use Rattle.quantize.specs.Quantize.{lowest, highest, quantized}
+use Rattle.quantize.specs.Quantize.{lowest, highest, rounded, quantized}
 use Rattle.quantize.proofs.AnswerLaws.{quantized-fits}
 use Rattle.parlour.specs.declared.Conversion.{Conversion}
 use Rattle.parlour.specs.Components.{component, converted, imageBox, paintedElements}
@@ -32,7 +32,7 @@ use Rattle.parlour.specs.Components.{component, converted, imageBox, pai
 module _ (k : Conversion) (d : ℤ) where
   converted-fits : (p : ℕ) → mag (converted k p d) < 256 ^ elementBytes p / 2
   unfolding elementBytes quantized lowest highest
-  converted-fits zero = fits-saturate {w = w8} (shrZ ((d -ℤ k .offset) *ℤ k .scale) (2 ^ k .shift)) (sfits-lit tt) (sfits-lit tt) .sfits
+  converted-fits zero = fits-saturate {w = w8} (rounded d (k .offset) (k .scale) (k .shift)) (sfits-lit tt) (sfits-lit tt) .sfits
   converted-fits (suc p) = quantized-fits d (k .offset) (k .scale) (k .shift) (suc p) .sfits
 
   pub converted-valid : (p : ℕ) → valueValid p (converted k p d) ≡ true

@@ -1,3 +1,4 @@
 pub mod Components
+pub mod Counts
 pub mod Rules
 pub mod Calls

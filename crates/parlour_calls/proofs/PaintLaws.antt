@@ -2,7 +2,7 @@
 --     same-elements                      a picture's elements, counted from the region's corner and from the cube's
 --     picture-refused, target-refused    picture or region refused
 --     paintable                          a picture that may be painted
---     paint-answers, paint-leaves        the region painted
+--     paint-counts, paint-leaves         the region painted
 use Prim.Native.Nat.{ℕ, _+_, _-_, _/_, _%_}
 use native.Mathlib.Omega.{arith}
 use mathlib.Core.Path.{_≡_, refl, sym, ap, subst⁻¹, _∙_}
@@ -12,8 +12,9 @@ use lib.IntN.{ℤ, pos}
 use Rattle.refusal.specs.declared.Answer.{Answer}
 use Rattle.refusal.specs.declared.Answer.the-variants.{Accepted, Refused}
 use Rattle.refusal.specs.declared.Refusal.{Refusal}
+use Rattle.refusal.specs.declared.Quantity.the-variants.{Is, Refused as NotGiven}
 use Rattle.refusal.specs.Checks.{inOrder}
-use Rattle.refusal.proofs.CheckLaws.{inOrder-passed, inOrder-refused, leaves-done}
+use Rattle.refusal.proofs.CheckLaws.{inOrder-passed, inOrder-refused, leaves-done, result-given, result-refused}
 use Rattle.elements.proofs.TabulateLaws.{tabulate-ext}
 use Rattle.layout.specs.declared.ElementBox.{ElementBox}
 use Rattle.layout.specs.Boxes.{boxCount, channelAt, rowAt, columnAt}
@@ -28,7 +29,8 @@ use Rattle.regions_calls.proofs.StepLaws.{refused-of, at-of}
 use Rattle.parlour.specs.declared.Conversion.{Conversion}
 use Rattle.parlour.specs.Components.{imageBox, paintedElements}
 use Rattle.parlour.specs.Rules.{pictureChecks, targetChecks, paintChecks}
-use Rattle.parlour.specs.Calls.{paintAnswer, paintBuffer}
+use Rattle.parlour.specs.Counts.{heldCount}
+use Rattle.parlour.specs.Calls.{paintAnswer, paintHeld, paintBuffer}
 use Rattle.parlour.proofs.RuleLaws.{ValidPicture, picture-accepted, ValidTarget, target-accepted}
 use Rattle.parlour.proofs.CallLaws.{whole-image, paint-kept}
 use Rattle.parlour_calls.specs.Steps.{targetFound, Paintable, paintedAt, partPainted}
@@ -56,20 +58,20 @@ module _ (t : RegionTable) (n id : ℕ) (image : PixelSetting) (pixels : List �
 
   -- the picture is refused
   pub picture-refused : {r : Refusal} {i : ℕ} → picture ≡ Refused r i
-      → (Refused r i ≡ paintAnswer t n id image (length pixels) k (length before)) × (before ≡ paintBuffer t n id image pixels k before)
-  unfolding paintAnswer paintChecks
+      → (NotGiven r i ≡ paintHeld t n id image pixels k (length before)) × (before ≡ paintBuffer t n id image pixels k before)
+  unfolding paintHeld paintAnswer paintChecks
   picture-refused e =
       let denied = inOrder-refused _ (targetChecks a image (length before)) e in
-      (sym denied, sym (paint-kept t n id image pixels k before denied))
+      (sym (result-refused _ _ _ denied), sym (paint-kept t n id image pixels k before denied))
 
   module _ (ok : picture ≡ Accepted) where
     -- the region is
     pub target-refused : {r : Refusal} {i : ℕ} → targetFound a image (length before) ≡ NotFound r i
-        → (Refused r i ≡ paintAnswer t n id image (length pixels) k (length before)) × (before ≡ paintBuffer t n id image pixels k before)
-    unfolding paintAnswer paintChecks targetFound
+        → (NotGiven r i ≡ paintHeld t n id image pixels k (length before)) × (before ≡ paintBuffer t n id image pixels k before)
+    unfolding paintHeld paintAnswer paintChecks targetFound
     target-refused e =
         let denied = inOrder-passed _ _ ok ∙ refused-of _ _ e in
-        (sym denied, sym (paint-kept t n id image pixels k before denied))
+        (sym (result-refused _ _ _ denied), sym (paint-kept t n id image pixels k before denied))
 
     module _ {box : ElementBox} (found : targetFound a image (length before) ≡ At box) where
       accepted : inOrder (targetChecks a image (length before)) ≡ Accepted
@@ -104,8 +106,9 @@ module _ (t : RegionTable) (n id : ℕ) (image : PixelSetting) (pixels : List �
       answered = inOrder-passed _ _ ok ∙ accepted
 
       -- the region is painted
-      pub paint-answers : Accepted ≡ paintAnswer t n id image (length pixels) k (length before)
-      paint-answers = sym answered
+      pub paint-counts : Is (heldCount image pixels k (t .layout .precision)) ≡ paintHeld t n id image pixels k (length before)
+      unfolding paintHeld
+      paint-counts = sym (result-given _ _ _ answered)
 
       pub paint-leaves : partPainted (t .layout) box box image pixels k before ≡ paintBuffer t n id image pixels k before
       unfolding partPainted paintBuffer

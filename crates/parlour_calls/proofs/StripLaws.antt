@@ -2,6 +2,7 @@
 --     Ready, ready                what a picture that may be painted tells
 --     strip-room, strip-fits      the pixels of a strip, and its elements
 --     strip-painted, strip-written     the tile written is the strip painted
+--     strip-counted               how many of its components are held
 --     painted-length .. rows-all  the buffer's length; no row or column, a further one, all of them
 use Prim.Native.Nat.{ℕ, _+_, _-_, _*_, _/_, _≤_, _<_}
 use native.Mathlib.Omega.{arith}
@@ -39,7 +40,8 @@ use Rattle.parlour.specs.Components.{componentBytes, componentAt, component, co
 use Rattle.parlour.proofs.RuleLaws.{ValidPicture, picture-accepted}
 use Rattle.parlour.proofs.ComponentLaws.{Parts, parts, strip-end, pixel-step}
 use Rattle.parlour.proofs.ElementLaws.{converted-valid}
-use Rattle.parlour_calls.specs.Steps.{runElement, stripElement, Paintable, paintedAt, rowOf, stripOf, partPainted}
+use Rattle.parlour_calls.specs.Steps.{runElement, stripElement, stripHeld, pixelsHeld, Paintable, paintedAt, rowOf, stripOf, partPainted}
+use Rattle.parlour_calls.proofs.CountLaws.{strip-of}
 use Rattle.parlour_calls.proofs.TileLaws.{below}
 
 -- the picture is accepted, the box is in the cube, and the components fill the pixels
@@ -193,6 +195,15 @@ module _ (q : CubeLayout) (box : ElementBox) (image : PixelSetting) (pixels : Li
       ∙ ap (λ (g : PixelFormat). columns (stripElement (image .format) (g .bytes / g .channels) (g .channels) k (q .precision) pixels at) count (g .channels) 0 count before) e
       ∙ ap (λ (a : ℕ). columns (stripElement (image .format) size channels k (q .precision) pixels a) count channels 0 count before) ea)
       buffer same
+
+  -- and how many of its components are held
+  pub strip-counted : {f : PixelFormat} → f ≡ formatOf (image .format) → {at : ℕ} → at ≡ pixelPosition image x y
+      → stripHeld (image .format) (f .bytes / f .channels) (f .channels) k (q .precision) pixels at count ≡ pixelsHeld image pixels k (q .precision) x y count
+  unfolding componentBytes
+  strip-counted {f} e {at} ea =
+      ap (λ (g : PixelFormat). stripHeld (image .format) (g .bytes / g .channels) (g .channels) k (q .precision) pixels at count) e
+      ∙ ap (λ (a : ℕ). stripHeld (image .format) size channels k (q .precision) pixels a count) ea
+      ∙ strip-of image pixels k (q .precision) x y count channels size (sym (r .setting .channels-is)) (r .components .whole) refl
 
 -- ---- strips side by side, rows below rows
 pub painted-length : (q : CubeLayout) (box part : ElementBox) (image : PixelSetting) (pixels : List ℕ) (k : Conversion) (before : List ℕ) → length (partPainted q box part image pixels k before) ≡ length before

@@ -1,10 +1,12 @@
-// Painting a box of the cube: row by row, each in strips of at most 256 pixels, which are converted into a tile and written by the loop that writes boxes.
+// Painting a box of the cube: row by row, each in strips of at most 256 pixels, which are converted into a tile and written by the loop that writes boxes; each part tells
+// how many components were held at a limit.
 ghost use mathlib.Core.Path.{_≡_};
 ghost use Prim.Native.Nat.{_+_, _≤_, _<_};
 ghost use lib.ListN.{length};
 ghost use Rattle.refusal.specs.declared.Answer.the-variants.{Accepted};
 ghost use Rattle.pixels.specs.Settings.{settingAnswer, pixelPosition};
-ghost use Rattle.parlour_calls.specs.Steps.{Levels, Paintable, rowOf, stripOf, partPainted};
+ghost use Rattle.parlour.specs.Counts.{rowHeld, heldCount};
+ghost use Rattle.parlour_calls.specs.Steps.{Levels, Paintable, rowOf, stripOf, partPainted, pixelsHeld};
 use crate::components;
 use layout::CubeLayout;
 use layout::ElementBox;
@@ -33,24 +35,27 @@ fn paint_strip(
     count: u32,
     pixels: &[u8],
     k: Conversion,
-    levels: &[i16; 256],
+    values: &[i16; 256],
+    flags: &[bool; 256],
     buffer: &mut [u8],
-)
+) -> u64
     requires { ⌜ Paintable layout b image (k .shift) (length (now pixels)) (length (now buffer)) ⌝ }
-    requires { ⌜ Levels k (layout .precision) (now levels) ⌝ }
+    requires { ⌜ Levels k (layout .precision) (now values) (now flags) ⌝ }
     requires { ⌜ (y < image .height) × (1 ≤ count) × (count ≤ 256) × (x + count ≤ image .width) ⌝ }
-    ensures { λ _. ⌜ now (buffer .exit) ≡ partPainted layout b (stripOf b x y count) image (now (pixels .entry)) k (now (buffer .entry)) ⌝ }
+    ensures painted { λ _. ⌜ now (buffer .exit) ≡ partPainted layout b (stripOf b x y count) image (now (pixels .entry)) k (now (buffer .entry)) ⌝ }
+    ensures counted { λ r. ⌜ r ≡ pixelsHeld image (now (pixels .entry)) k (layout .precision) x y count ⌝ }
 {
     let format = pixels_calls::format(image.format);
     let at = pixel_at(image, x, y) as usize;
     let mut tile = [0i16; 1024];
-    components::convert_strip(
+    let held = components::convert_strip(
         image.format,
         format.bytes / format.channels,
         format.channels,
         k,
         layout.precision,
-        levels,
+        values,
+        flags,
         pixels,
         at,
         count as usize,
@@ -66,6 +71,7 @@ fn paint_strip(
     };
     let n = (format.channels * count) as usize;
     cube::write_box(layout, strip, &tile[..n], buffer);
+    held
 }
 
 // One row of the picture.
@@ -76,22 +82,38 @@ fn paint_row(
     y: u32,
     pixels: &[u8],
     k: Conversion,
-    levels: &[i16; 256],
+    values: &[i16; 256],
+    flags: &[bool; 256],
     buffer: &mut [u8],
-)
+) -> u64
     requires { ⌜ Paintable layout b image (k .shift) (length (now pixels)) (length (now buffer)) ⌝ }
-    requires { ⌜ Levels k (layout .precision) (now levels) ⌝ }
+    requires { ⌜ Levels k (layout .precision) (now values) (now flags) ⌝ }
     requires { ⌜ y < image .height ⌝ }
-    ensures { λ _. ⌜ now (buffer .exit) ≡ partPainted layout b (rowOf b y) image (now (pixels .entry)) k (now (buffer .entry)) ⌝ }
+    ensures painted { λ _. ⌜ now (buffer .exit) ≡ partPainted layout b (rowOf b y) image (now (pixels .entry)) k (now (buffer .entry)) ⌝ }
+    ensures counted { λ r. ⌜ r ≡ rowHeld image (now (pixels .entry)) k (layout .precision) y ⌝ }
 {
     let width = image.width;
+    let mut held: u64 = 0;
     let mut x: u32 = 0;
     while x < width {
         let left = width - x;
         let count = if left < 256 { left } else { 256 };
-        paint_strip(layout, b, image, x, y, count, pixels, k, levels, buffer);
+        held += paint_strip(
+            layout,
+            b,
+            image,
+            x,
+            y,
+            count,
+            pixels,
+            k,
+            values,
+            flags,
+            buffer,
+        );
         x += count;
     }
+    held
 }
 
 // Every row of the picture.
@@ -102,15 +124,20 @@ pub(crate) fn paint_rows(
     pixels: &[u8],
     k: Conversion,
     buffer: &mut [u8],
-)
+) -> u64
     requires { ⌜ Paintable layout b image (k .shift) (length (now pixels)) (length (now buffer)) ⌝ }
-    ensures { λ _. ⌜ now (buffer .exit) ≡ partPainted layout b b image (now (pixels .entry)) k (now (buffer .entry)) ⌝ }
+    ensures painted { λ _. ⌜ now (buffer .exit) ≡ partPainted layout b b image (now (pixels .entry)) k (now (buffer .entry)) ⌝ }
+    ensures counted { λ r. ⌜ r ≡ heldCount image (now (pixels .entry)) k (layout .precision) ⌝ }
 {
-    let levels = components::levels(k, layout.precision);
+    let mut values = [0i16; 256];
+    let mut flags = [false; 256];
+    components::levels(k, layout.precision, &mut values, &mut flags);
     let height = image.height;
+    let mut held: u64 = 0;
     let mut y: u32 = 0;
     while y < height {
-        paint_row(layout, b, image, y, pixels, k, &levels, buffer);
+        held += paint_row(layout, b, image, y, pixels, k, &values, &flags, buffer);
         y += 1;
     }
+    held
 }

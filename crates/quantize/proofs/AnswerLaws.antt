@@ -1,13 +1,13 @@
 -- The limits of a precision, the range of a converted value, and the checks as the code goes through them. Assumes nothing.
 --     lowest-zero .. highest-other          the limits, by the precision
---     saturated-value, quantized-fits       the converted value from the scaled one; it fits 16 bits
+--     saturated-value, quantized-fits       the converted value from the rounded number; it fits 16 bits
+--     beyond-limited                        whether it was held
 --     answer-refused, answer-value          the answer, by the checks
 --     check-precision .. check-valid        the checks, one after another
 --     checked                               what accepted checks tell
-use Prim.Native.Nat.{ℕ, zero, suc, _^_, _≤_, _<_}
+use Prim.Native.Nat.{ℕ, zero, suc, _≤_, _<_}
 use mathlib.Core.Path.{_≡_, sym, refl, _∙_}
-use lib.IntN.{ℤ, pos, negsuc, _-ℤ_, _*ℤ_}
-use lib.Signed.{shrZ}
+use lib.IntN.{ℤ, pos, negsuc}
 use borrow.Author.Tests.{lt-ltb, le-ltb, le-leb, lt-leb, ltb-true, leb-true}
 use mir.Syntax.{w16}
 use mir.Val.{SFits}
@@ -17,10 +17,10 @@ use Rattle.refusal.specs.declared.Refusal.{Refusal}
 use Rattle.refusal.specs.declared.Refusal.the-variants.{Precision, Shift}
 use Rattle.refusal.specs.Checks.{inOrder}
 use Rattle.refusal.proofs.CheckLaws.{Held, inOrder-all, requireAt-held, inOrder-nil, inOrder-next, inOrder-stop, result-given, result-refused}
-use Rattle.integers.specs.Saturate.{saturate}
+use Rattle.integers.specs.Saturate.{saturate, beyond}
 use Rattle.integers.proofs.SaturateLaws.{fits-saturate}
 use Rattle.quantize.specs.declared.Quantized.the-variants.{Value, Refused as NotGiven}
-use Rattle.quantize.specs.Quantize.{lowest, highest, quantizeChecks, quantized, quantizeAnswer}
+use Rattle.quantize.specs.Quantize.{lowest, highest, quantizeChecks, rounded, quantized, limited, conversion, quantizeAnswer}
 
 -- ---- the limits
 
@@ -54,22 +54,26 @@ highest-fits (suc p) = sfits-lit tt
 
 -- ---- the value, and the checks
 
--- the value from the scaled one
-pub saturated-value : {low high y : ℤ} (d offset scale : ℤ) (shift precision : ℕ) → low ≡ lowest precision → high ≡ highest precision
-    → y ≡ shrZ ((d -ℤ offset) *ℤ scale) (2 ^ shift) → saturate low high y ≡ quantized d offset scale shift precision
-unfolding quantized
-saturated-value d offset scale shift precision e f g = rw (e, f, g)
-
 module _ (d offset scale : ℤ) (shift precision : ℕ) where
+  -- from the rounded number
+  module _ {low high y : ℤ} (e : low ≡ lowest precision) (f : high ≡ highest precision) (g : y ≡ rounded d offset scale shift) where
+    pub saturated-value : saturate low high y ≡ quantized d offset scale shift precision
+    unfolding quantized
+    saturated-value = rw (e, f, g)
+
+    pub beyond-limited : beyond low high y ≡ limited d offset scale shift precision
+    unfolding limited
+    beyond-limited = rw (e, f, g)
+
   pub quantized-fits : SFits w16 (quantized d offset scale shift precision)
   unfolding quantized
-  quantized-fits = fits-saturate (shrZ ((d -ℤ offset) *ℤ scale) (2 ^ shift)) (lowest-fits precision) (highest-fits precision)
+  quantized-fits = fits-saturate (rounded d offset scale shift) (lowest-fits precision) (highest-fits precision)
 
   pub answer-refused : {r : Refusal} {i : ℕ} → inOrder (quantizeChecks precision shift) ≡ Refused r i → NotGiven r i ≡ quantizeAnswer d offset scale shift precision
   unfolding quantizeAnswer
   answer-refused e = sym (result-refused _ _ _ e)
 
-  pub answer-value : inOrder (quantizeChecks precision shift) ≡ Accepted → Value (quantized d offset scale shift precision) ≡ quantizeAnswer d offset scale shift precision
+  pub answer-value : inOrder (quantizeChecks precision shift) ≡ Accepted → Value (conversion d offset scale shift precision) ≡ quantizeAnswer d offset scale shift precision
   unfolding quantizeAnswer
   answer-value e = sym (result-given _ _ _ e)
 

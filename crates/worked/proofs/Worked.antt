@@ -14,7 +14,7 @@ use Rattle.layout.specs.Contents.{packedByte, packed}
 use Rattle.layout.specs.Calls.{packAnswer, packBuffer, positionQuantity}
 use Rattle.integers.specs.Saturate.{saturate}
 use Rattle.weights.specs.Geometry as w
-use Rattle.quantize.specs.Quantize.{lowest, highest, quantizeChecks, quantized, quantizeAnswer}
+use Rattle.quantize.specs.Quantize.{lowest, highest, quantizeChecks, nearestOf, nearest, rounded, quantized, quantizeAnswer}
 use Rattle.lut.specs.Numbers.{between, scaled, shifted, logBelow}
 use Rattle.lut.specs.Tables.{entry, interpolated, linearSide, linearHit, reaches, exponentialSide, exponentialHit, sloped, sideX, hitX, answerX, sideY, answerY}
 use Rattle.lut.specs.Samples.{kindOf, sampleKind, answering, answerOf, sampleAnswer, kindNumber, sameKind, countOf, counted}
@@ -35,7 +35,7 @@ unfoldable pub cases : List Case
 cases = cubeCases ++ weightCases ++ conversionCases ++ lookupCases ++ cameraCases
 
 pub worked : T (allGiven cases)
-unfolding cases sameNumbers allGiven cubeCases weightCases conversionCases lookupCases cameraCases tensFrom requireAt inOrder leaves result elementBytes byteOf remadeFrom remade valueValid valueCheck valueChecksFrom valueChecks elementCount rawIndex surfaces elementPosition cubeExtent spanInside boxInside sizeValid sizesValid wholeAtoms stridesValid layoutChecks boxChecks storageChecks cubeChecks surfaceOf rowOf columnOf byteInAtom inAtom atomOwner owner packedByte packed packAnswer packBuffer positionQuantity w.groupSize w.elementCount w.groupKernels w.blockChannels w.offsetNumber w.elementNumber w.elementPosition w.surfaceBytes saturate lowest highest quantizeChecks quantized quantizeAnswer between scaled shifted logBelow entry interpolated linearSide linearHit reaches exponentialSide exponentialHit sloped sideX hitX answerX sideY answerY kindOf sampleKind answering answerOf sampleAnswer kindNumber sameKind countOf counted modeValid sameZ endValid shiftValid counterSum tableChecks lutChecks runAnswer runOutputs runCounters curveEntry curveY curveX indices yTable xTable chosen flat readySettings readyChecks readyAnswer
+unfolding cases sameNumbers allGiven cubeCases weightCases conversionCases lookupCases cameraCases tensFrom requireAt inOrder leaves result elementBytes byteOf remadeFrom remade valueValid valueCheck valueChecksFrom valueChecks elementCount rawIndex surfaces elementPosition cubeExtent spanInside boxInside sizeValid sizesValid wholeAtoms stridesValid layoutChecks boxChecks storageChecks cubeChecks surfaceOf rowOf columnOf byteInAtom inAtom atomOwner owner packedByte packed packAnswer packBuffer positionQuantity w.groupSize w.elementCount w.groupKernels w.blockChannels w.offsetNumber w.elementNumber w.elementPosition w.surfaceBytes saturate lowest highest quantizeChecks nearestOf nearest rounded quantized quantizeAnswer between scaled shifted logBelow entry interpolated linearSide linearHit reaches exponentialSide exponentialHit sloped sideX hitX answerX sideY answerY kindOf sampleKind answering answerOf sampleAnswer kindNumber sameKind countOf counted modeValid sameZ endValid shiftValid counterSum tableChecks lutChecks runAnswer runOutputs runCounters curveEntry curveY curveX indices yTable xTable chosen flat readySettings readyChecks readyAnswer
 worked =
     -- the curve's roots, by their squares
     rw (

@@ -7,7 +7,7 @@ use Rattle.quantize.specs.Quantize.{quantizeAnswer}
 use Rattle.worked.specs.Cases.{Case, gives}
 
 abbrev pub converted : Quantized → List ℤ
-converted (Value z) = z ∷ []
+converted (Value c) = c .value ∷ []
 converted (NotGiven r at) = []
 
 unfoldable pub conversionCases : List Case

@@ -1,7 +1,7 @@
 -- `history_calls::paint` is the fold's step: the promise of `parlour::paint`. Assumes nothing.
-use mathlib.Core.Path.{refl}
+use Rattle.parlour.specs.Calls.{paintHeld}
 use Rattle.history.specs.Program.{step}
-use Rattle.history_calls.proofs.StepLaws.{stepOf-ext}
+use Rattle.history_calls.proofs.StepLaws.{stepWith-ext, reply-of}
 use borrow.Author.Needs.{needs}
 use Rattle.history_calls.proofs.paint.Statement.{statement}
 use Rattle.history_calls.proofs.paint.Tie as tie
@@ -13,8 +13,8 @@ same-length : tie.Need-same-length
 same-length c = search needs
 
 returns : tie.Need-returns
-unfolding step
-returns c = let d = c .before .before in stepOf-ext (d .paint .ensures .0) refl (d .paint .ensures .1 .0) (d .paint .ensures .1 .1)
+unfolding step paintHeld
+returns c = let d = c .before .before in stepWith-ext (reply-of _ _ (d .paint .ensures .0)) (d .paint .ensures .1 .0) (d .paint .ensures .1 .1)
 
 pub paint-spec : {M : Type 1} → statement M
 paint-spec = tie.close (tie.spec paint-requires same-length returns)

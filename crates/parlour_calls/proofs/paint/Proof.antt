@@ -1,14 +1,15 @@
 -- `parlour_calls::paint` meets its contract: it checks the picture, then the region, and paints all of it. Assumes nothing.
-use mathlib.Core.Path.{_≡_, refl, sym, _∙_}
+use mathlib.Core.Path.{_≡_, refl, sym, ap, _∙_}
 use lib.ListN.{length}
 use borrow.Author.Needs.{needs}
 use Rattle.refusal.specs.declared.Answer.the-variants.{Accepted}
+use Rattle.refusal.specs.declared.Quantity.the-variants.{Is}
 use Rattle.refusal.specs.Checks.{inOrder}
 use Rattle.regions.specs.declared.FoundBox.the-variants.{At}
 use Rattle.regions.specs.Rules.{accessOf}
 use Rattle.parlour.specs.Rules.{pictureChecks}
 use Rattle.parlour_calls.specs.Steps.{targetFound}
-use Rattle.parlour_calls.proofs.PaintLaws.{picture-refused, target-refused, paintable, paint-answers, paint-leaves}
+use Rattle.parlour_calls.proofs.PaintLaws.{picture-refused, target-refused, paintable, paint-counts, paint-leaves}
 use Rattle.parlour_calls.proofs.paint.Statement.{statement}
 use Rattle.parlour_calls.proofs.paint.Tie as tie
 
@@ -26,23 +27,17 @@ found c = sym (c .before .before .find-target .ensures) ∙ c .all .given .1
 check-picture-requires : tie.Need-check-picture-requires
 check-picture-requires c κs = search needs
 
+enum-known-refusal : tie.Need-enum-known-refusal
+enum-known-refusal c = search needs
+
 enum-told : tie.Need-enum-told
 enum-told c = search needs
-
-enum-told-2 : tie.Need-enum-told-2
-enum-told-2 c = search needs
-
-returns : tie.Need-returns
-returns c = let p = c .before .before in
-    let a = start p .args in
-    let t = picture-refused (a .table) (a .slot) (a .id) (a .image) (a .pixels .now) (a .conversion) (a .buffer .now) (sym (p .check-picture .ensures) ∙ c .enum-told2 .given .1) in
-    (c .enum-told2 .given .1 ∙ t .0, (refl, t .1))
 
 find-target-requires : tie.Need-find-target-requires
 find-target-requires c κs = search needs
 
-enum-known-refusal : tie.Need-enum-known-refusal
-enum-known-refusal c = search needs
+enum-known-refusal-2 : tie.Need-enum-known-refusal-2
+enum-known-refusal-2 c = search needs
 
 enum-known-all : tie.Need-enum-known-all
 enum-known-all c = search needs
@@ -53,11 +48,17 @@ paint-rows-requires c κs = let b = c .before .before in
     let a = start (e .before .before) .args in
     paintable (a .table) (a .slot) (a .id) (a .image) (a .pixels .now) (a .conversion) (a .buffer .now) (ok e) (found b)
 
+returns : tie.Need-returns
+returns c = let p = c .before .before .before in
+    let a = start p .args in
+    let t = picture-refused (a .table) (a .slot) (a .id) (a .image) (a .pixels .now) (a .conversion) (a .buffer .now) (sym (p .check-picture .ensures) ∙ c .before .refusal .given .1) in
+    (t .0, (refl, t .1))
+
 returns-2 : tie.Need-returns-2
 returns-2 c = let f = c .before .before .before in
     let e = f .before in
     let a = start (e .before .before) .args in
-    let t = target-refused (a .table) (a .slot) (a .id) (a .image) (a .pixels .now) (a .conversion) (a .buffer .now) (ok e) (sym (f .find-target .ensures) ∙ c .before .refusal .given .1) in
+    let t = target-refused (a .table) (a .slot) (a .id) (a .image) (a .pixels .now) (a .conversion) (a .buffer .now) (ok e) (sym (f .find-target .ensures) ∙ c .before .refusal2 .given .1) in
     (t .0, (refl, t .1))
 
 same-length : tie.Need-same-length
@@ -68,10 +69,10 @@ returns-3 c = let r = c .before .before in
     let b = r .before .before .before in
     let e = b .before .before .before in
     let a = start (e .before .before) .args in (
-      paint-answers (a .table) (a .slot) (a .id) (a .image) (a .pixels .now) (a .conversion) (a .buffer .now) (ok e) (found b),
+      ap Is (r .paint-rows .ensures .1) ∙ paint-counts (a .table) (a .slot) (a .id) (a .image) (a .pixels .now) (a .conversion) (a .buffer .now) (ok e) (found b),
       (
         refl,
-        r .paint-rows .ensures ∙ paint-leaves (a .table) (a .slot) (a .id) (a .image) (a .pixels .now) (a .conversion) (a .buffer .now) (ok e) (found b),
+        r .paint-rows .ensures .0 ∙ paint-leaves (a .table) (a .slot) (a .id) (a .image) (a .pixels .now) (a .conversion) (a .buffer .now) (ok e) (found b),
       ),
     )
 
@@ -80,13 +81,13 @@ paint-spec =
     tie.close
     (tie.spec
     check-picture-requires
-    enum-told
-    enum-told-2
-    returns
-    find-target-requires
     enum-known-refusal
+    enum-told
+    find-target-requires
+    enum-known-refusal-2
     enum-known-all
     paint-rows-requires
+    returns
     returns-2
     same-length
     returns-3)

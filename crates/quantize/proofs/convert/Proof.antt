@@ -1,11 +1,11 @@
--- `quantize::convert` meets its contract: it checks, and gives the value of an accepted conversion. Assumes nothing.
+-- `quantize::convert` meets its contract: it checks, and gives what an accepted conversion does. Assumes nothing.
 use mathlib.Core.Path.{_≡_, sym, ap, _∙_}
 use borrow.Author.Needs.{needs, sfits-of}
 use mir.Facts.{toZ-ofZ}
 use Rattle.refusal.specs.declared.Answer.the-variants.{Accepted}
 use Rattle.refusal.specs.Checks.{inOrder}
 use Rattle.quantize.specs.declared.Quantized.the-variants.{Value}
-use Rattle.quantize.specs.Quantize.{quantizeChecks, quantized}
+use Rattle.quantize.specs.Quantize.{quantizeChecks, conversion}
 use Rattle.quantize.proofs.AnswerLaws.{answer-refused, answer-value, checked}
 use Rattle.quantize.proofs.convert.Statement.{statement}
 use Rattle.quantize.proofs.convert.Tie as tie
@@ -22,14 +22,14 @@ enum-known-refusal c = search needs
 enum-told : tie.Need-enum-told
 enum-told c = search needs
 
-value-requires : tie.Need-value-requires
-value-requires c κs = let a = c .before .before .before .args in checked (a .precision) (a .shift) (held c) .1
+conversion-requires : tie.Need-conversion-requires
+conversion-requires c κs = let a = c .before .before .before .args in checked (a .precision) (a .shift) (held c) .1
 
--- what `value` was handed is read back
-value-is : (c : tie.After-value) → let a = c .before .before .before .before .args in
-    c .value .result ≡ quantized (a .d) (a .offset) (a .scale) (a .shift) (a .precision)
+-- what `conversion` was handed is read back
+value-is : (c : tie.After-conversion) → let a = c .before .before .before .before .args in
+    c .conversion .result ≡ conversion (a .d) (a .offset) (a .scale) (a .shift) (a .precision)
 value-is c = let f = c .before .before .before .before .fits in
-    simp (toZ-ofZ (f .d), toZ-ofZ (f .offset), toZ-ofZ (f .scale)) at (c .value .ensures)
+    simp (toZ-ofZ (f .d), toZ-ofZ (f .offset), toZ-ofZ (f .scale)) at (c .conversion .ensures)
 
 returns : tie.Need-returns
 returns c = let d = c .before .before .before in
@@ -38,10 +38,10 @@ returns c = let d = c .before .before .before in
 
 returns-2 : tie.Need-returns-2
 returns-2 c = let a = c .before .before .before .before .args in
-    ap Value (toZ-ofZ (sfits-of (c .value .ok)) ∙ value-is c)
+    ap Value (value-is c)
     ∙ answer-value (a .d) (a .offset) (a .scale) (a .shift) (a .precision) (held (c .before))
 
 pub convert-spec : {M : Type 1} → statement M
 convert-spec =
     tie.close
-    (tie.spec check-requires enum-known-refusal enum-told value-requires returns returns-2)
+    (tie.spec check-requires enum-known-refusal enum-told conversion-requires returns returns-2)

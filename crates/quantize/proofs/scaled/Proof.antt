@@ -1,9 +1,8 @@
--- `quantize::scaled` meets its contract: difference, product and shift stay within 64 bits. Assumes nothing.
-use Prim.Native.Nat.{_^_}
+-- `quantize::scaled` meets its contract: difference and product stay within 64 bits. Assumes nothing.
+use mathlib.Core.Path.{_≡_, sym, subst}
 use mir.Facts.{sfits-widen}
-use borrow.Author.Needs.{needs}
 use Rattle.general.proofs.Casts.{cast-fits}
-use Rattle.quantize.proofs.ScaleLaws.{diff-fits, product-fits, shifted-value}
+use Rattle.quantize.proofs.ScaleLaws.{diff-fits, product-fits, product-value, product-small}
 use Rattle.quantize.proofs.scaled.Statement.{statement}
 use Rattle.quantize.proofs.scaled.Tie as tie
 
@@ -22,24 +21,8 @@ cast-result-3 c = cast-fits (c .fits .scale) (sfits-widen tt (c .fits .scale))
 mul-result : tie.Need-mul-result
 mul-result c = product-fits (c .fits .d) (c .fits .offset) (c .fits .scale)
 
-cast-result-4 : tie.Need-cast-result-4
-cast-result-4 c = search needs
-
-shr-result : tie.Need-shr-result
-shr-result c = search needs
-
 returns : tie.Need-returns
-returns c = shifted-value (c .fits .d) (c .fits .offset) (c .fits .scale) (2 ^ c .args .shift)
+returns c = let e = product-value (c .fits .d) (c .fits .offset) (c .fits .scale) in (e, rw e (product-small (c .fits .d) (c .fits .offset) (c .fits .scale)))
 
 pub scaled-spec : {M : Type 1} → statement M
-scaled-spec =
-    tie.close
-    (tie.spec
-    cast-result
-    cast-result-2
-    sub-result
-    cast-result-3
-    mul-result
-    cast-result-4
-    shr-result
-    returns)
+scaled-spec = tie.close (tie.spec cast-result cast-result-2 sub-result cast-result-3 mul-result returns)

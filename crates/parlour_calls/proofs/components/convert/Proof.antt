@@ -21,8 +21,8 @@ answer-is c = let t = c .before .before in
 enum-told : tie.Need-enum-told
 enum-told c = search needs
 
-enum-known-v : tie.Need-enum-known-v
-enum-known-v c = search needs
+enum-known-c : tie.Need-enum-known-c
+enum-known-c c = search needs
 
 returns : tie.Need-returns
 returns c = let a = c .before .before .before .before .before .args in
@@ -31,8 +31,7 @@ returns c = let a = c .before .before .before .before .before .args in
 returns-2 : tie.Need-returns-2
 returns-2 c = let d = c .before .before .before in
     let a = d .before .before .before .args in
-    back16 (c .before .v .given .0 .0) (c .known-told .given .0 .1)
-    ∙ value-is (a .d) (a .k .offset) (a .k .scale) (a .k .shift) (a .precision) (d .before .before .before .pre) (sym (answer-is d) ∙ c .before .v .given .1)
+    value-is (a .d) (a .k .offset) (a .k .scale) (a .k .shift) (a .precision) (d .before .before .before .pre) (sym (answer-is d) ∙ c .before .c .given .1)
 
 pub convert-spec : {M : Type 1} → statement M
-convert-spec = tie.close (tie.spec convert-requires enum-told enum-known-v returns returns-2)
+convert-spec = tie.close (tie.spec convert-requires enum-told enum-known-c returns returns-2)

@@ -1,4 +1,5 @@
--- `parlour_calls::strips::paint_strip` meets its contract: the tile has the strip's converted components, and they are written as a box. Assumes nothing.
+-- `parlour_calls::strips::paint_strip` meets its contract: the tile has the strip's converted components, and they are written as a box; those that
+-- were held are counted. Assumes nothing.
 use Prim.Native.Nat.{ℕ, _*_, _/_, _≤_}
 use native.Mathlib.Omega.{arith}
 use mathlib.Core.Path.{_≡_, refl, sym, ap, subst⁻¹, _∙_}
@@ -9,7 +10,7 @@ use Rattle.pixels.specs.declared.PixelFormat.{PixelFormat}
 use Rattle.pixels.specs.Formats.{formatOf}
 use Rattle.parlour.specs.Components.{componentBytes}
 use Rattle.parlour_calls.proofs.TileLaws.{tile-long}
-use Rattle.parlour_calls.proofs.StripLaws.{Ready, ready, strip-room, strip-fits, strip-written}
+use Rattle.parlour_calls.proofs.StripLaws.{Ready, ready, strip-room, strip-fits, strip-written, strip-counted}
 use Rattle.parlour_calls.proofs.strips.paint_strip.Statement.{statement}
 use Rattle.parlour_calls.proofs.strips.paint_strip.Tie as tie
 
@@ -61,8 +62,8 @@ add-n c = let s = start (c .before .before .before .before .before) in
     let d = told s .box-in in
     omega (arith, s .pre .1 .1 .0, s .pre .0 .rows, d .inside .rows .fit, d .layout .height-le)
 
-add-t21 : tie.Need-add-t21
-add-t21 c = let s = start (c .before .before .before .before .before .before) in
+add-t22 : tie.Need-add-t22
+add-t22 c = let s = start (c .before .before .before .before .before .before) in
     let d = told s .box-in in
     omega (arith, s .pre .1 .1 .3, s .pre .0 .columns, d .inside .columns .fit, d .layout .width-le)
 
@@ -74,11 +75,11 @@ cast-n c = omega (arith, count-le (c .before .before .before .before .before .be
 
 array-share-prefix-tile : tie.Need-array-share-prefix-tile
 array-share-prefix-tile c = let v = c .before .before .before in
-    omega (arith, count-le (v .before .before .before .before), tile-long _ _ _ _ refl (v .convert-strip .ensures))
+    omega (arith, count-le (v .before .before .before .before), tile-long _ _ _ _ refl (v .convert-strip .ensures .0))
 
 slice-aggregate-write-box : tie.Need-slice-aggregate-write-box
 slice-aggregate-write-box c = let v = c .before .before .before .before in
-    sym (length-take-le _ _ (omega (arith, count-le (v .before .before .before .before), tile-long _ _ _ _ refl (v .convert-strip .ensures))))
+    sym (length-take-le _ _ (omega (arith, count-le (v .before .before .before .before), tile-long _ _ _ _ refl (v .convert-strip .ensures .0))))
 
 write-box-requires : tie.Need-write-box-requires
 write-box-requires c κs = search needs
@@ -94,9 +95,11 @@ returns c =
     let f = p .before in
     let s = start f in
     let a = s .args in
-    w .write-box .ensures .1
-    ∙ strip-written (a .layout) (a .b) (a .image) (a .pixels .now) (a .k) (length (a .buffer .now)) (s .pre .0) (a .x) (a .y) (a .count) (s .pre .1 .1 .0) (s .pre .1 .1 .1) (s .pre .1 .1 .2) (s .pre .1 .1 .3)
-    (f .format .ensures) (p .pixel-at .ensures) _ _ refl (v .convert-strip .ensures) (a .buffer .now) refl
+    let written = strip-written (a .layout) (a .b) (a .image) (a .pixels .now) (a .k) (length (a .buffer .now)) (s .pre .0) (a .x) (a .y) (a .count) (s .pre .1 .1 .0) (s .pre .1 .1 .1) (s .pre .1 .1 .2) (s .pre .1 .1 .3)
+    (f .format .ensures) (p .pixel-at .ensures) _ _ refl (v .convert-strip .ensures .0) (a .buffer .now) refl in
+    let counted = strip-counted (a .layout) (a .b) (a .image) (a .pixels .now) (a .k) (length (a .buffer .now)) (s .pre .0) (a .x) (a .y) (a .count) (s .pre .1 .1 .0) (s .pre .1 .1 .1) (s .pre .1 .1 .2) (s .pre .1 .1 .3)
+    (f .format .ensures) (p .pixel-at .ensures) in
+    (w .write-box .ensures .1 ∙ written, v .convert-strip .ensures .1 ∙ counted)
 
 pub paint-strip-spec : {M : Type 1} → statement M
 paint-strip-spec =
@@ -107,7 +110,7 @@ paint-strip-spec =
     div-convert-strip
     convert-strip-requires
     add-n
-    add-t21
+    add-t22
     mul-n
     cast-n
     array-share-prefix-tile
