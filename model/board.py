@@ -240,11 +240,12 @@ class Board:
 
     def left(self, answer, name):
         """The lines of a call that may change a list: its answer, and the list, or the checksums of the other and of the list."""
-        code, index, self.lists[name] = answer
+        *told, self.lists[name] = answer
+        head = " ".join(map(str, told))
         if self.sums:
             other = "elements" if name == "buffer" else "buffer"
-            return [f"{code} {index} {checksum(self.lists[other])} {checksum(self.lists[name])}"]
-        return [f"{code} {index}"] + rows(name, self.lists[name])
+            return [f"{head} {checksum(self.lists[other])} {checksum(self.lists[name])}"]
+        return [head] + rows(name, self.lists[name])
 
     # --- cubes, weights, regions ---
 
@@ -296,11 +297,11 @@ class Board:
         return out
 
     def on_paint(self, slot, owner, *given):
-        """`paint`: the pixel buffer is the low byte of each element."""
+        """`paint`: the pixel buffer is the low byte of each element; the answer has how many components were held."""
         pixel_bytes = bytes(element % 256 for element in self.lists["elements"])
         called = (slot, owner, pixels.PixelSetting(*given[:8]), pixel_bytes, parlour.Conversion(*given[8:]))
         answer = parlour.paint(self.table, *called, self.lists["buffer"])
-        assert not self.picture or self.picture.paint(*called) == answer[:2]
+        assert not self.picture or self.picture.paint(*called) == answer[:3]
         self.packed = None
         out = self.left(answer, "buffer")
         self.check_picture()
@@ -340,7 +341,7 @@ class Board:
     # --- values ---
 
     def value(self, name, given):
-        """The commands that answer a code, an index and a value, or the first two alone."""
+        """The commands that answer a code, an index and a value, or the first two alone; `convert` also tells if it was held."""
         if name == "position":
             answer = cube.position(cube.CubeLayout(*given[:7]), *given[7:])
         elif name == "stall position":
@@ -352,8 +353,8 @@ class Board:
         elif name == "whose":
             answer = cube.whose(cube.CubeLayout(*given[:7]), given[7])
         elif name == "convert":
-            code, index, value = quantize.quantize(*given)
-            answer = code, index, 0 if code else value
+            *answer, held = quantize.quantize(*given)
+            answer.append(int(held))
         elif name == "pixel setting":
             answer = pixels.setting(pixels.PixelSetting(*given))[:2]
         elif name == "pixel position":

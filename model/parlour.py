@@ -1,8 +1,9 @@
 """Painting a region of a cube from a camera's picture.
 
 Renders change request K3 with its codes 29 and 30: the components of a picture's
-pixels, the elements that they become, and the order of the call's checks. Whole
-numbers have no width; answers are as in cube.py.
+pixels, the elements that they become, and the order of the call's checks; and of
+change request K5 how many components are held. Whole numbers have no width;
+answers are as in cube.py.
 
 A picture is a pixel setting and the bytes of a pixel buffer. One conversion
 serves all its components.
@@ -14,7 +15,7 @@ from itertools import product
 import regions
 from cube import room_code
 from pixels import FORMATS, FP16, pixel_position, setting_code
-from quantize import quantize
+from quantize import LIMITS, quantize
 
 Conversion = namedtuple("Conversion", "offset scale shift")
 
@@ -33,10 +34,18 @@ def component(p, pixels, n, x, y):
     return value % 2 ** LOW_BITS[f.name] if f.name in LOW_BITS else value
 
 
-def painted_elements(p, pixels, k, precision):
-    """The components converted, in raw order: component n of pixel (x, y) is of channel n, row y, column x."""
-    return [quantize(component(p, pixels, n, x, y), *k, precision)[2]
+def converted(p, pixels, k, precision):
+    """Each component's element, and whether it was held; in raw order.
+
+    Component n of pixel (x, y) is of channel n, row y, column x.
+    """
+    return [quantize(component(p, pixels, n, x, y), *k, precision)[2:]
             for n, y, x in product(range(p.channels), range(p.height), range(p.width))]
+
+
+def painted_elements(p, pixels, k, precision):
+    """The elements alone."""
+    return [element for element, _ in converted(p, pixels, k, precision)]
 
 
 def picture_end(p):
@@ -76,23 +85,45 @@ def paint_code(q, slots, n, owner, p, pixels, k, buffer):
 # --- the call ---
 
 def paint(table, n, owner, p, pixels, k, buffer):
-    """Paint a region: (code, 0, buffer after); an edit of the whole region with the converted components."""
+    """Paint a region: (code, 0, how many components were held, buffer after).
+
+    It is an edit of the whole region with the converted components.
+    """
     code = paint_code(*table, n, owner, p, pixels, k, buffer)
     if code:
-        return code, 0, buffer
+        return code, 0, 0, buffer
     whole = regions.whole_region(table.layout, table.slots[n].rectangle)
-    edited = regions.edit(table, n, owner, whole, painted_elements(p, pixels, k, table.layout.precision), buffer)
+    elements, held = zip(*converted(p, pixels, k, table.layout.precision))
+    edited = regions.edit(table, n, owner, whole, list(elements), buffer)
     assert edited[0] == 0
-    return edited
+    return 0, 0, sum(held), edited[2]
+
+
+# --- the plain picture ---
+
+def lies_beyond(d, k, precision):
+    """Whether a component lies half a step or more past a limit, before it is rounded."""
+    least, most = LIMITS[precision]
+    twice = 2 * (d - k.offset) * k.scale
+    return twice >= (2 * most + 1) * 2 ** k.shift or twice <= (2 * least - 1) * 2 ** k.shift
 
 
 class PlainPicture(regions.PlainPicture):
     """A plain picture that is fed paintings too."""
 
     def paint(self, n, owner, p, pixels, k):
-        """A painting: (code, 0); an edit of the whole region."""
+        """A painting: (code, 0, how many components were held); an edit of the whole region.
+
+        The count is made pixel by pixel, without the conversion.
+        """
         code = paint_code(self.layout, self.slots, n, owner, p, pixels, k, self.before)
-        if not code:
-            whole = regions.whole_region(self.layout, self.slots[n].rectangle)
-            self.put(n, whole, painted_elements(p, pixels, k, self.layout.precision))
-        return code, 0
+        if code:
+            return code, 0, 0
+        precision = self.layout.precision
+        whole = regions.whole_region(self.layout, self.slots[n].rectangle)
+        self.put(n, whole, painted_elements(p, pixels, k, precision))
+        count = 0
+        for y, x, part in product(range(p.height), range(p.width), range(p.channels)):
+            if lies_beyond(component(p, pixels, part, x, y), k, precision):
+                count += 1
+        return 0, 0, count

@@ -1,8 +1,8 @@
 """The test cases of painting: sessions in which regions are painted from pictures of every format.
 
 Renders no rule of its own; the sessions stand at the limits named in change
-request K3, and in the scope paper's "Pixels" and "Conversion". Each field of a
-line is described in README.md: elements are here the bytes of a pixel buffer.
+requests K3 and K5, and in the scope paper's "Pixels" and "Conversion". Each field
+of a line is described in README.md: elements are here the bytes of a pixel buffer.
 A session is a list of lines that begins with a packing.
 """
 
@@ -58,7 +58,7 @@ def lent(m):
 
 
 def spread(code, precision):
-    """The conversion of a format's components to a whole precision, or to a part of it: none is held."""
+    """The conversion of a format's components to a whole precision, or to a part of it: only the highest are held."""
     f = FORMATS[code]
     bits = LOW_BITS.get(f.name, 8 * f.bytes // f.channels)
     middle = 0 if f.name == SIGNED_FORMAT else min(2 ** (bits - 1), S16_MAX)
@@ -102,6 +102,28 @@ def conversions(precision):
             yield painted(3, setting(code, g.columns, g.rows, code % 2), k)
         for shift in (32, 64, U32_MAX):
             yield painted(3, setting(code, g.columns, g.rows), PLAIN._replace(shift=shift))
+
+
+def counts(precision):
+    """Pictures of which none, all and some components are held, of T_R8 and T_A8B8G8R8.
+
+    `upper` holds the bytes from 128 on, `lower` those below; `both` holds 0 to 14 and, from half a step past the limit
+    on, 185 to 255; `over_2` holds 255 alone.
+    """
+    whole, half = (1, 1) if precision == 0 else (256, 257)
+    upper, lower = Conversion(0, whole, 0), Conversion(256, whole, 0)
+    both, over_2 = Conversion(100, 3 * half, 1), Conversion(0, half, 1)
+    for code, columns in ((0, 70), (12, 9)):
+        q = layout(columns + 2, 4, FORMATS[code].channels, precision, 1, 0, 32)
+        g, p = Rectangle(1, 1, columns, 3), setting(code, columns, 3, 1, 32, 1)
+        yield begin(q)
+        yield placed(11, g)
+        for k, base, span in ((upper, 0, 128), (upper, 128, 128), (upper, 0, 256), (lower, 128, 128), (lower, 0, 128),
+                              (lower, 0, 256), (both, 15, 170), (both, 0, 256), (both, 14, 2), (both, 184, 2),
+                              (over_2, 0, 255), (over_2, 255, 1), (over_2, 254, 2)):
+            yield painted(11, p, k, base=base - S16_MIN, span=span)
+        yield painted(11, p, upper, owner=usual(11) + 1, base=128 - S16_MIN, span=128)
+        yield seen(q, 11, g)
 
 
 def wide(precision):
@@ -364,7 +386,7 @@ def sessions(precision):
 
 # --- the list ---
 
-SESSIONS = (formats, conversions, wide, tall, edges, far, many_faults, hand_slots, hand_layouts, sessions)
+SESSIONS = (formats, conversions, wide, tall, edges, far, many_faults, hand_slots, hand_layouts, sessions, counts)
 
 
 def all_cases():

@@ -1,8 +1,8 @@
 """The test cases of conversion: hand-chosen corners and seeded random numbers.
 
 Renders no rule of its own; the cases stand at the limits named in the scope
-paper's "Conversion" and "Refusal numbers". Each field of a case is described
-in README.md.
+paper's "Conversion" and "Refusal numbers", and at the halves of change request
+K5. Each field of a case is described in README.md.
 """
 
 import random
@@ -27,12 +27,18 @@ def quantized(d, offset, scale, shift, precision):
 # --- corners ---
 
 def starred():
-    """The paper's cases, in both precisions, and neighbours."""
+    """The cases of the paper and of K5, in both precisions, and neighbours."""
     for precision in LIMITS:
         yield quantized(100, 128, 3, 2, precision)
+        yield quantized(101, 128, 3, 2, precision)
         yield quantized(255, 0, 1, 0, precision)
         yield quantized(156, 128, 3, 2, precision)
         yield quantized(100, 128, -3, 2, precision)
+        for d in range(124, 133):
+            yield quantized(d, 128, 1, 2, precision)
+        for d in range(252, 258):
+            yield quantized(d, 0, 1, 1, precision)
+            yield quantized(-d, 0, 1, 1, precision)
 
 
 def extremes():
@@ -46,24 +52,41 @@ def extremes():
 
 
 def limits():
-    """Values just inside and outside the limits of each precision, and at the edges of their steps."""
+    """Whole values just inside and outside the limits of each precision."""
     for precision, (least, most) in LIMITS.items():
         for value in (least - 1, least, least + 1, most - 1, most, most + 1):
             yield quantized(value, 0, 1, 0, precision)
             yield quantized(-value + 7, 7, -1, 0, precision)
-        for value in (least + 1, most):
-            for d in (value * 32 - 1, value * 32, value * 32 + 31, value * 32 + 32):
-                yield quantized(d, 0, 1, 5, precision)
+            yield quantized(value * 32, 0, 1, 5, precision)
 
 
-def floors():
-    """Quotients below zero go down, and exact ones stay."""
-    for d, shift in ((-1, 1), (-2, 1), (-3, 1), (-1, 2), (-4, 2), (-5, 2), (-1, 31), (1, 31), (3, 1)):
+def onto_limits():
+    """Values that round onto a limit and are not held, and the next ones, from half a step past it on, that are."""
+    for (precision, (least, most)), shift in product(LIMITS.items(), (1, 2, 5, 15)):
+        for past, inside in ((2 * most + 1, -1), (2 * least - 1, 1)):
+            half = past * 2 ** (shift - 1)
+            for d in (half - 1, half, half + 1, half + inside * 2 ** shift):
+                yield quantized(d, 0, 1, shift, precision)
+                yield quantized(-d - 9, -9, -1, shift, precision)
+    # 127.5, -128.5 and 32767.5 with shift 31
+    for d, (step, scale, precision) in product((-1, 0, 1), ((2 ** 30, 255, 0), (2 ** 30, -257, 0),
+                                                            (2 ** 15 - 2 ** 31, S16_MIN, 1))):
+        yield quantized(step + d, 0, scale, 31, precision)
+
+
+def halves():
+    """Halves of both signs, and the numbers just beside them; a shift of 0 has whole values alone."""
+    for shift, precision, scale in product((0, 1, 2, 31), LIMITS, (1, -1, 3, -3)):
+        half = 2 ** shift // 2
+        for d in (half - 1, half, half + 1):
+            yield quantized(d, 0, scale, shift, precision)
+            yield quantized(-d, 0, scale, shift, precision)
+    for d, shift in ((-2, 1), (-3, 1), (-4, 2), (-5, 2), (-6, 2), (-7, 2), (-1, 31), (-2 ** 30 - 7, 31), (3, 1)):
         yield quantized(d, 0, 1, shift, 0)
         yield quantized(-d, 0, -1, shift, 1)
     for d, scale in product((-3, 2), (3, -3, 5, -5)):
         yield quantized(d, -1, scale, 2, 1)
-    for offset in (127, 128, 129):
+    for offset in (123, 124, 125, 127, 128, 129, 131, 132, 133):
         yield quantized(128, offset, 1, 3, 0)
 
 
@@ -111,7 +134,7 @@ def random_cases():
 
 # --- the list ---
 
-GROUPS = (starred, extremes, limits, floors, shifts, precisions, wide_numbers, random_cases)
+GROUPS = (starred, extremes, limits, onto_limits, halves, shifts, precisions, wide_numbers, random_cases)
 
 
 def all_cases():

@@ -2,7 +2,7 @@
 
 Beside them stand inputs on which readings of "Cells and cubes", "Stalls",
 "Weights", "Pixels", "Two tables", "The sheet program", "Refusal numbers" and of
-change requests K1, K2 and K3 part.
+change requests K1, K2, K3 and K5 part.
 Prints nothing if all hold.
 """
 
@@ -16,7 +16,7 @@ from cube import (Box, CubeLayout, box_positions, element_position, extent, pack
                   read_box, surface_count, unpack, whole_box, write_box)
 from lut import (EXPONENTIAL, LINEAR, OVERFLOW, PRIORITY, S32_MAX, S32_MIN, UNDERFLOW, X_ONLY,
                  LutSettings, Slope, XSettings, YSettings, linear_value, look, run, run_code, x_value)
-from parlour import Conversion, paint
+from parlour import Conversion, PlainPicture, paint
 from quantize import quantize
 from regions import (EMPTY_SLOTS, Rectangle, RegionTable, Slot, count, edit, empty_table, place, read, release,
                      share_position, with_slot)
@@ -253,12 +253,35 @@ def lent_weights():
 
 
 def starred_conversions():
-    """The starred conversion cases; quotients below zero go down; 2 comes before 16."""
-    assert quantize(100, 128, 3, 2, 0) == (0, 0, -21)
-    assert quantize(255, 0, 1, 0, 0) == (0, 0, 127)
-    assert quantize(-1, 0, 1, 1, 0) == (0, 0, -1)
-    assert quantize(1, 0, 1, 32, 2) == (2, 0, 0)
-    assert quantize(1, 0, 1, 32, 1) == (16, 0, 0)
+    """The starred conversion cases; 2 comes before 16."""
+    assert quantize(100, 128, 3, 2, 0) == quantize(100, 128, 3, 2, 1) == (0, 0, -21, False)
+    assert quantize(255, 0, 1, 0, 0) == (0, 0, 127, True)
+    assert quantize(255, 0, 1, 0, 1) == (0, 0, 255, False)
+    assert quantize(1, 0, 1, 32, 2) == (2, 0, 0, False)
+    assert quantize(1, 0, 1, 32, 1) == (16, 0, 0, False)
+
+
+def nearest_conversions():
+    """Change request K5: halves go away from zero, all else to the nearest; what is rounded is then held, and told."""
+    def values(numbers, *setting):
+        """The values of numbers, of which none is held."""
+        answers = [quantize(d, *setting) for d in numbers]
+        assert all(code == index == held == 0 for code, index, _, held in answers)
+        return [value for _, _, value, _ in answers]
+
+    # 130 less 128 is half of 4; 126 is as much below
+    assert values((126, 127, 128, 129, 130, 131), 128, 1, 2, 0) == [-1, 0, 0, 0, 1, 1]
+    # -84 over 4 is exact; -81 over 4 is -20.25, -78 over 4 -19.5, -75 over 4 -18.75
+    assert values((100, 101, 102, 103), 128, 3, 2, 0) == [-21, -20, -20, -19]
+    assert values((-3, -2, -1, 0, 1, 2, 3), 0, 1, 1, 1) == [-2, -1, -1, 0, 1, 1, 2]
+    assert values((-3, -2, -1, 0, 1, 2, 3), 0, 1, 0, 1) == [-3, -2, -1, 0, 1, 2, 3]
+    assert values((-2 ** 30 - 1, -2 ** 30, 1 - 2 ** 30, 2 ** 30 - 1, 2 ** 30), 0, 1, 31, 0) == [-1, -1, 0, 0, 1]
+    # half a step past a limit is the first to be held
+    for precision, least, most in ((0, -128, 127), (1, -32768, 32767)):
+        assert values((2 * most - 1, 2 * most, 2 * least, 2 * least + 1), 0, 1, 1, precision) == [most, most, least, least]
+        assert quantize(2 * most + 1, 0, 1, 1, precision) == (0, 0, most, True)
+        assert quantize(2 * least - 1, 0, 1, 1, precision) == (0, 0, least, True)
+    assert quantize(254, 0, 1, 1, 0) == (0, 0, 127, False) and quantize(255, 0, 1, 1, 0) == (0, 0, 127, True)
 
 
 def pixel_settings():
@@ -301,7 +324,8 @@ def four_components():
     after = bytearray([238]) * 320
     for at, pixel in ((160, first[:4]), (192, first[4:]), (256, second[:4]), (288, bytes([0x0D, 0x0E, 0x7F, 0x7F]))):
         after[at:at + 4] = pixel
-    assert paint(table, 5, 7, p, picture, Conversion(0, 1, 0), bytes([238]) * 320) == (0, 0, bytes(after))
+    # 80 and ff are held
+    assert paint(table, 5, 7, p, picture, Conversion(0, 1, 0), bytes([238]) * 320) == (0, 0, 2, bytes(after))
     # less 128 each, in two bytes: 1 is 81 ff, 255 is 7f 00
     wide = q._replace(precision=1)
     table = table._replace(layout=wide)
@@ -309,14 +333,14 @@ def four_components():
         after[at:at + 8] = b"".join((b - 128).to_bytes(2, "little", signed=True) for b in pixel)
     assert after[160:168] == bytes([0x81, 0xFF, 0x82, 0xFF, 0x83, 0xFF, 0x84, 0xFF])
     assert after[288:296] == bytes([0x8D, 0xFF, 0x8E, 0xFF, 0, 0, 0x7F, 0])
-    assert paint(table, 5, 7, p, picture, Conversion(128, 1, 0), bytes([238]) * 320) == (0, 0, bytes(after))
+    assert paint(table, 5, 7, p, picture, Conversion(128, 1, 0), bytes([238]) * 320) == (0, 0, 0, bytes(after))
 
 
 def painted_bytes(code, stored, conversion, precision):
     """The bytes of the element that a picture of one pixel of one component becomes."""
     q = CubeLayout(1, 1, 1, precision, 32, 32, 0)
     p = pixels.PixelSetting(code, 1, 1, 1, pixels.FORMATS[code].precision, 0, 0, 32)
-    refused, _, after = paint(by_hand(0, True, 0, 0, 1, 1, q=q), 0, 7, p, stored, Conversion(*conversion), bytes(32))
+    refused, _, _, after = paint(by_hand(0, True, 0, 0, 1, 1, q=q), 0, 7, p, stored, Conversion(*conversion), bytes(32))
     assert refused == 0 and not any(after[precision + 1:])
     return after[:precision + 1]
 
@@ -325,13 +349,38 @@ def one_component():
     """T_R16_I alone is signed; T_R10 and T_R12 use their low bits; every other component is as its bytes say."""
     assert painted_bytes(4, bytes([0xFE, 0xFF]), (0, 1, 0), 1) == bytes([0xFE, 0xFF])
     assert painted_bytes(3, bytes([0xFE, 0xFF]), (0, 1, 0), 1) == bytes([0xFF, 0x7F])
-    # (-2 - 1) * 3 over 2 is -4.5, so -5; (65534 - 32767) over 2 is 16383.5, so 16383
+    # (-2 - 1) * 3 over 2 is -4.5, so -5; (65534 - 32767) over 2 is 16383.5, so 16384
     assert painted_bytes(4, bytes([0xFE, 0xFF]), (1, 3, 1), 0) == bytes([0xFB])
-    assert painted_bytes(3, bytes([0xFE, 0xFF]), (32767, 1, 1), 1) == bytes([0xFF, 0x3F])
+    assert painted_bytes(3, bytes([0xFE, 0xFF]), (32767, 1, 1), 1) == bytes([0x00, 0x40])
     assert painted_bytes(2, bytes([0x34, 0xF6]), (0, 1, 0), 1) == bytes([0x34, 0x06])
     assert painted_bytes(1, bytes([0x34, 0xF6]), (0, 1, 0), 1) == bytes([0x34, 0x02])
     assert painted_bytes(3, bytes([0x34, 0x76]), (0, 1, 0), 1) == bytes([0x34, 0x76])
     assert painted_bytes(0, bytes([0xFF]), (128, -1, 0), 0) == bytes([0x81])
+
+
+def held_components():
+    """Components are counted, not pixels, by their rounded values; the plain picture counts as many."""
+    q, slot = CubeLayout(2, 2, 4, 0, 64, 128, 0), Rectangle(0, 0, 2, 2)
+    p, table = pixels.PixelSetting(12, 2, 2, 4, 0, 0, 0, 32), place(empty_table(q), 9, 7, slot)[2]
+    picture = bytes([0, 127, 128, 254, 255, 255, 255, 129]) + bytes(24) + bytes([1, 2, 3, 4, 255, 0, 0, 0])
+
+    def counted(k, precision=0, owner=7):
+        """The answer of the call and of a plain picture that was placed the same region."""
+        frame = q._replace(precision=precision)
+        plain = PlainPicture(frame, [0] * 16, bytes(128))
+        assert plain.place(9, 7, slot) == (0, 0)
+        answer = paint(table._replace(layout=frame), 9, owner, p, picture, k, bytes(128))
+        assert plain.paint(9, owner, p, picture, k) == answer[:3] and plain.packed() == answer[3]
+        return answer[:3]
+
+    # from 128 on: two of the first pixel, all four of the second, none of the third, one of the last
+    assert counted(Conversion(0, 1, 0)) == (0, 0, 7)
+    # over 2 the four of 255, no 254
+    assert counted(Conversion(0, 1, 1)) == (0, 0, 4)
+    assert counted(Conversion(0, -1, 0)) == (0, 0, 6)
+    assert counted(Conversion(128, 1, 0)) == counted(Conversion(0, 1, 0), 1) == (0, 0, 0)
+    assert counted(Conversion(500, 1, 0)) == counted(Conversion(-32768, 1, 0), 1) == (0, 0, 16)
+    assert counted(Conversion(0, 1, 0), owner=8) == (25, 0, 0)
 
 
 def painting_readings():
@@ -363,9 +412,9 @@ def painting_readings():
         assert code(two, n=4, owner=8, given=34, room=room) == 8
     assert code(room=127) == 5 and code(one._replace(width=2), given=2, room=127) == 9
     outside = by_hand(3, True, 1, 1, 2, 2, q=q)
-    assert paint(outside, 3, 7, two, bytes(34), plain, buffer) == (9, 0, buffer)
+    assert paint(outside, 3, 7, two, bytes(34), plain, buffer) == (9, 0, 0, buffer)
     sixteen = one._replace(format=3, precision=1)
-    assert paint(table, 3, 7, sixteen, bytes([0x34, 0x12]), plain, buffer) == (0, 0, bytes([0x7F]) + bytes(127))
+    assert paint(table, 3, 7, sixteen, bytes([0x34, 0x12]), plain, buffer) == (0, 0, 1, bytes([0x7F]) + bytes(127))
 
 
 def starred_lookups():
@@ -467,10 +516,12 @@ if __name__ == "__main__":
     weight_order()
     lent_weights()
     starred_conversions()
+    nearest_conversions()
     pixel_settings()
     float_formats()
     four_components()
     one_component()
+    held_components()
     painting_readings()
     starred_lookups()
     lookup_readings()
