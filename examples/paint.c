@@ -1,4 +1,5 @@
-/* From camera to stall: a picture of 2x2 pixels, T_A8B8G8R8, painted into a pupil's stall in one call; then the stall's bytes, and what is refused.
+/* From camera to stall: a picture of 2x2 pixels, T_A8B8G8R8, painted into a pupil's stall in one call, then once more, brighter. Each time it prints
+ * how many components were held to the range, and the stall's bytes; then what is refused.
  *
  *   cc -std=c11 -Wall -Wextra -pedantic -Iinclude examples/paint.c target/staticlib/libolsketina.a -o paint
  *   ./paint | cmp - examples/paint.stdout
@@ -18,6 +19,26 @@ static int told(const char *call, uint32_t refusal)
     return refusal == OLSKETINA_ACCEPTED;
 }
 
+/* Prints how many components were held; then the elements of each pixel of the stall, and the byte behind them. */
+static int shown(uint64_t held, const uint32_t table[OLSKETINA_TABLE_WORDS], const uint8_t *buffer)
+{
+    uint64_t position = 0;
+    size_t fault = 0;
+    int good = 1;
+
+    printf("held: %" PRIu64 "\n", held);
+    for (uint32_t row = 0; row < 2; row++) {
+        for (uint32_t column = 0; column < 2; column++) {
+            good &= olsketina_regions_position(table, SLOT, ADA, 0, row, column, &position, &fault) == OLSKETINA_ACCEPTED;
+            printf("pixel (%" PRIu32 ", %" PRIu32 ") at byte %" PRIu64 ":", column, row, position);
+            for (int i = 0; i <= CHANNELS; i++)
+                printf(" %02x", (unsigned)buffer[position + (unsigned)i]);
+            putchar('\n');
+        }
+    }
+    return good;
+}
+
 int main(void)
 {
     /* Four columns, three rows and four channels of int8, without gaps; the stall is of two columns and two rows, from column 1 and row 1 on. */
@@ -32,7 +53,7 @@ int main(void)
     };
     uint32_t table[OLSKETINA_TABLE_WORDS];
     uint8_t buffer[BYTES];
-    uint64_t position = 0;
+    uint64_t held = 0;
     size_t fault = 0;
     int good = 1;
 
@@ -40,22 +61,17 @@ int main(void)
     olsketina_regions_empty(layout, table);
     good &= told("place", olsketina_regions_place(table, SLOT, ADA, 1, 1, 2, 2, &fault));
 
-    /* A component d becomes (d - 128) * 1 over 2^0: black is -128, white 127. */
-    good &= told("paint", olsketina_parlour_paint(table, SLOT, ADA, image, pixels, sizeof pixels, 128, 1, 0, buffer, BYTES, &fault));
+    /* A component d becomes (d - 128) * 1 over 2^0: black is -128, white 127, and none is held. */
+    good &= told("paint", olsketina_parlour_paint(table, SLOT, ADA, image, pixels, sizeof pixels, 128, 1, 0, buffer, BYTES, &held, &fault));
+    good &= shown(held, table, buffer);
 
-    /* The elements of each pixel, and the byte behind them. */
-    for (uint32_t row = 0; row < 2; row++) {
-        for (uint32_t column = 0; column < 2; column++) {
-            good &= olsketina_regions_position(table, SLOT, ADA, 0, row, column, &position, &fault) == OLSKETINA_ACCEPTED;
-            printf("pixel (%" PRIu32 ", %" PRIu32 ") at byte %" PRIu64 ":", column, row, position);
-            for (int i = 0; i <= CHANNELS; i++)
-                printf(" %02x", (unsigned)buffer[position + (unsigned)i]);
-            putchar('\n');
-        }
-    }
+    /* Half as much again, d * 3 over 2^1: 1 becomes 1.5, so 2; from 85 on they are held to 127. */
+    good &= told("paint brighter", olsketina_parlour_paint(table, SLOT, ADA, image, pixels, sizeof pixels, 0, 3, 1, buffer, BYTES, &held, &fault));
+    good &= shown(held, table, buffer);
 
-    /* Refused: a float format, and a pixel buffer that ends within the last pixel. */
-    good &= !told("paint floats", olsketina_parlour_paint(table, SLOT, ADA, floats, pixels, sizeof pixels, 128, 1, 0, buffer, BYTES, &fault));
-    good &= !told("paint of 39 bytes", olsketina_parlour_paint(table, SLOT, ADA, image, pixels, 39, 128, 1, 0, buffer, BYTES, &fault));
-    return good && fflush(stdout) == 0 ? 0 : 1;
+    /* Refused: a float format, and a pixel buffer that ends within the last pixel. A refused call stores no count. */
+    held = 99;
+    good &= !told("paint floats", olsketina_parlour_paint(table, SLOT, ADA, floats, pixels, sizeof pixels, 128, 1, 0, buffer, BYTES, &held, &fault));
+    good &= !told("paint of 39 bytes", olsketina_parlour_paint(table, SLOT, ADA, image, pixels, 39, 128, 1, 0, buffer, BYTES, &held, &fault));
+    return good && held == 99 && fflush(stdout) == 0 ? 0 : 1;
 }

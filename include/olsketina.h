@@ -22,7 +22,7 @@
 
 /* The header's version; olsketina_version() gives the archive's. It grows with every change of a call, of its answers or of a word's
  * meaning. */
-#define OLSKETINA_VERSION 5
+#define OLSKETINA_VERSION 6
 
 /* A parameter that points to (at least) n elements; a result that must be looked at. */
 #ifdef __cplusplus
@@ -292,23 +292,25 @@ OLSKETINA_NODISCARD uint32_t olsketina_pixels_position(
 
 /* ---- integer conversion */
 
-/* (d - offset) * scale over 2^shift, rounded down, held to the precision's range, stored in *value.
+/* (d - offset) * scale over 2^shift, rounded to the nearest whole number, halves away from zero, then held to the precision's range, stored in
+ * *value; in *held 1 where the rounded value lay beyond the range, else 0.
  * Order: 2, 16. */
 OLSKETINA_NODISCARD uint32_t olsketina_quantize_convert(
-    int32_t d, int16_t offset, int16_t scale, uint32_t shift, uint32_t precision, int16_t *value, size_t *fault);
+    int32_t d, int16_t offset, int16_t scale, uint32_t shift, uint32_t precision, int16_t *value, uint32_t *held, size_t *fault);
 
 /* ---- a camera's picture into a region */
 
 /* Paints the owner's region in a slot from the pixels of an image: component n of pixel (x, y), converted to the cube's precision as by
- * olsketina_quantize_convert, becomes the element of channel n, row y and column x of the region; no other byte is written. Components are numbered
- * from the pixel's first byte on and are unsigned numbers of one or two bytes, the low one first; those of T_R16_I are signed, and T_R10 and T_R12
- * have the low 10 or 12 bits. No fp16 format is taken, and no fp16 cube. The pixel buffer may end with the last pixel.
+ * olsketina_quantize_convert, becomes the element of channel n, row y and column x of the region; no other byte is written. How many components
+ * (not pixels) were held to the range is stored in *held. Components are numbered from the pixel's first byte on and are unsigned numbers of one or
+ * two bytes, the low one first; those of T_R16_I are signed, and T_R10 and T_R12 have the low 10 or 12 bits. No fp16 format is taken, and no fp16
+ * cube. The pixel buffer may end with the last pixel.
  * Order: 19, 1, 20, 21, 22 of the image; 29; 2 of the cube's precision, 16; 30; 1, 3, 4 of the cube; 8, 25, 9 (the image has another width or height
  * than the region, too), 5. */
 OLSKETINA_NODISCARD uint32_t olsketina_parlour_paint(
     const uint32_t table[OLSKETINA_WORDS(OLSKETINA_TABLE_WORDS)], uint32_t slot, uint32_t id,
     const uint32_t image[OLSKETINA_WORDS(OLSKETINA_IMAGE_WORDS)], const uint8_t *pixels, size_t pixels_len,
-    int16_t offset, int16_t scale, uint32_t shift, uint8_t *buffer, size_t buffer_len, size_t *fault);
+    int16_t offset, int16_t scale, uint32_t shift, uint8_t *buffer, size_t buffer_len, uint64_t *held, size_t *fault);
 
 /* ---- two-table lookup */
 

@@ -38,7 +38,7 @@ mod sheet;
 pub use cubes::{ElementBox, Layout, Region, Table};
 pub use lookup::{camera, Choice, Counters, Lookup, Mode, Slope, TableSettings};
 pub use paint::Conversion;
-pub use settings::{convert, Image, Weights};
+pub use settings::{convert, Converted, Image, Weights};
 pub use sheet::{header_text, Row, Sheet};
 
 /// The calls themselves, declared from the signatures of the Rattle sources (build.rs).

@@ -50,7 +50,18 @@ impl Image {
     }
 }
 
-/// (d - offset) * scale over 2^shift, rounded down, held to the precision's range.
-pub fn convert(d: i32, offset: i16, scale: i16, shift: u32, precision: u32) -> Answer<i16> {
-    valued(1234, |value, fault| unsafe { raw::olsketina_quantize_convert(d, offset, scale, shift, precision, value, fault) })
+/// A converted number, and whether it was held: the rounded value lay beyond a limit of the precision.
+#[derive(Clone, Copy, Debug, Default, PartialEq, Eq)]
+pub struct Converted {
+    pub value: i16,
+    pub held: bool,
+}
+
+/// (d - offset) * scale over 2^shift, rounded to the nearest whole number, halves away from zero, then held to the precision's range.
+pub fn convert(d: i32, offset: i16, scale: i16, shift: u32, precision: u32) -> Answer<Converted> {
+    let (value, held) = valued((1234, u32::MAX), |(value, held), fault| unsafe {
+        raw::olsketina_quantize_convert(d, offset, scale, shift, precision, value, held, fault)
+    })?;
+    debug_assert!(held <= 1);
+    Ok(Converted { value, held: held != 0 })
 }

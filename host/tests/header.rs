@@ -189,6 +189,7 @@ fn a_wrong_header_fails() {
     let (header, exports) = (header(), exports());
     let wrong = [
         ("a 16-bit value", "uint64_t *value", "uint16_t *value", "incompatible"),
+        ("a count of 32 bits", "uint64_t *held", "uint32_t *held", "incompatible"),
         ("a signed byte", "uint8_t *buffer", "int8_t *buffer", "incompatible"),
         ("a constant that may be written", "const int16_t *elements", "int16_t *elements", "incompatible"),
         ("exchanged types", "uint8_t *buffer, size_t buffer_len", "size_t buffer, uint8_t *buffer_len", "incompatible"),

@@ -103,28 +103,40 @@ fn component(format: u32, size: usize, pixel: &[u8], n: usize) -> i64 {
     }
 }
 
-/// Four components of a byte into int8: the loop for this format alone.
-fn paint_bytes(lines: impl Iterator<Item = (usize, usize)>, columns: usize, conversion: Conversion, pixels: &[u8], buffer: &mut [u8]) {
-    let Conversion { offset, scale, shift } = conversion;
+/// (d - offset) * scale over 2^shift to the nearest, halves away from zero: half a step more, below zero one less, unless nothing is shifted out.
+#[inline(always)]
+fn nearest(d: i64, Conversion { offset, scale, shift }: Conversion) -> i64 {
+    let product = (d - i64::from(offset)) * i64::from(scale);
+    let half = (1 << shift) >> 1;
+    (product + half - ((product >> 63) & half.min(1))) >> shift
+}
+
+/// Four components of a byte into int8: the loop for this format alone. Gives how many were held.
+fn paint_bytes(
+    lines: impl Iterator<Item = (usize, usize)>, columns: usize, conversion: Conversion, pixels: &[u8], buffer: &mut [u8],
+) -> u64 {
+    let mut held = 0;
     for (from, to) in lines {
         for x in 0..columns {
             let pixel = &pixels[from + 4 * x..][..4];
             let atom = &mut buffer[to + ATOM * x..][..ATOM];
             for n in 0..4 {
-                let value = ((i64::from(pixel[n]) - i64::from(offset)) * i64::from(scale)) >> shift;
-                atom[n] = value.clamp(-128, 127) as u8;
+                let value = nearest(pixel[n].into(), conversion);
+                let inside = value.clamp(-128, 127);
+                held += u64::from(inside != value);
+                atom[n] = inside as u8;
             }
         }
     }
+    held
 }
 
-/// Row by row, pixel by pixel, component by component; the channels of a picture fit into one atom.
+/// Row by row, pixel by pixel, component by component; the channels of a picture fit into one atom. Gives how many components were held.
 #[inline(never)]
-pub fn paint(table: &Table, slot: u32, id: u32, image: Image, conversion: Conversion, pixels: &[u8], buffer: &mut [u8]) -> Answer<()> {
+pub fn paint(table: &Table, slot: u32, id: u32, image: Image, conversion: Conversion, pixels: &[u8], buffer: &mut [u8]) -> Answer<u64> {
     let all = parlour::admitted(table, slot, id, image, conversion, pixels.len(), buffer.len())?;
     let [[_, top, left], [channels, rows, columns]] = inside(all);
     let layout = table.layout();
-    let Conversion { offset, scale, shift } = conversion;
     let (low, high) = if layout.precision == 0 { (-128, 127) } else { (-32768, 32767) };
     let bytes = pixels::checked(image)? as usize;
     if (bytes, channels, layout.precision) == (4, 4, 0) {
@@ -132,9 +144,9 @@ pub fn paint(table: &Table, slot: u32, id: u32, image: Image, conversion: Conver
             let from = image.start as usize + y * image.line as usize + image.x_offset as usize * bytes;
             (from, layout.start as usize + (top + y) * layout.line as usize + left * ATOM)
         });
-        paint_bytes(lines, columns, conversion, pixels, buffer);
-        return Ok(());
+        return Ok(paint_bytes(lines, columns, conversion, pixels, buffer));
     }
+    let mut held = 0;
     for y in 0..rows {
         let line = &pixels[image.start as usize + y * image.line as usize..];
         let atoms = layout.start as usize + (top + y) * layout.line as usize + left * ATOM;
@@ -142,17 +154,18 @@ pub fn paint(table: &Table, slot: u32, id: u32, image: Image, conversion: Conver
             let pixel = &line[(x + image.x_offset as usize) * bytes..][..bytes];
             let atom = &mut buffer[atoms + x * ATOM..][..ATOM];
             for n in 0..channels {
-                let d = component(image.format, bytes / channels, pixel, n);
-                let value = (((d - i64::from(offset)) * i64::from(scale)) >> shift).clamp(low, high);
+                let value = nearest(component(image.format, bytes / channels, pixel, n), conversion);
+                let inside = value.clamp(low, high);
+                held += u64::from(inside != value);
                 if layout.precision == 0 {
-                    atom[n] = value as u8;
+                    atom[n] = inside as u8;
                 } else {
-                    atom[2 * n..2 * n + 2].copy_from_slice(&(value as i16).to_le_bytes());
+                    atom[2 * n..2 * n + 2].copy_from_slice(&(inside as i16).to_le_bytes());
                 }
             }
         }
     }
-    Ok(())
+    Ok(held)
 }
 
 #[inline(never)]

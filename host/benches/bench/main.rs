@@ -32,6 +32,17 @@ fn thread_time() -> f64 {
     (1_000_000_000 * time[0] + time[1]) as f64
 }
 
+/// What a job gives beside its output.
+#[derive(Clone, Copy, PartialEq)]
+enum Gives {
+    Nothing,
+    /// A lookup's samples of each kind.
+    Kinds(Counters),
+    /// How many components of a painting were held.
+    Held(u64),
+}
+use Gives::{Held, Kinds, Nothing};
+
 /// Nanoseconds of the best run and of the median one.
 type Times = [f64; 2];
 
@@ -79,7 +90,7 @@ fn at_page<T: Copy>(contents: &[T]) -> (Vec<T>, usize) {
 }
 
 fn contender<'a, I: Copy + 'a, O: Copy + Default + 'a>(
-    input: &[I], output: &[O], written: &'a [Range<usize>], run: impl Fn(&[I], &mut [O]) -> Answer<Counters> + 'a,
+    input: &[I], output: &[O], written: &'a [Range<usize>], run: impl Fn(&[I], &mut [O]) -> Answer<Gives> + 'a,
 ) -> Contender<'a> {
     let ((input, from), (mut output, to)) = (at_page(input), at_page(output));
     Box::new(move |step| {
@@ -113,8 +124,7 @@ fn interleave(repetitions: usize, before: &[Step], contenders: &mut [Contender; 
 struct Row {
     name: String,
     cells: usize,
-    /// A lookup's samples of each kind.
-    kinds: Counters,
+    gives: Gives,
     /// Of each table, in the order of NAMES.
     times: [[Times; 3]; 3],
     /// What our time may be at most: a multiple of another's.
@@ -125,7 +135,7 @@ struct Row {
 /// the calls write these parts of the output, and what it holds before shows what they leave.
 fn measure<I: Copy, O: Copy + Default + PartialEq>(
     name: &str, repetitions: usize, cells: usize, input: &[I], output: &[O], written: &[Range<usize>],
-    calls: [impl Fn(&[I], &mut [O]) -> Answer<Counters>; 2],
+    calls: [impl Fn(&[I], &mut [O]) -> Answer<Gives>; 2],
 ) -> Row {
     eprintln!("{name}");
     let results = calls.each_ref().map(|call| {
@@ -138,11 +148,11 @@ fn measure<I: Copy, O: Copy + Default + PartialEq>(
     let [ours, plain] = calls.map(|call| contender(input, output, written, call));
     let copy = contender(&vec![1; half], &vec![2; half], from_ref(&all), |source: &[u8], target: &mut [u8]| {
         target.copy_from_slice(source);
-        Ok([0; 5])
+        Ok(Nothing)
     });
     let mut contenders = [ours, plain, copy];
     let times = TABLES.map(|(_, before)| interleave(repetitions, before, &mut contenders));
-    Row { name: name.to_string(), cells, kinds: results[0].0, times, bar: None }
+    Row { name: name.to_string(), cells, gives: results[0].0, times, bar: None }
 }
 
 // ---- the jobs: for each, the library's call and the Rust loop
@@ -177,7 +187,7 @@ type Call<S, I, O> = fn(S, &[I], &mut [O]) -> Answer<()>;
 fn convey<S: Copy, I: Copy, O: Copy + Default + PartialEq>(
     name: &str, repetitions: usize, cells: usize, setting: S, input: &[I], output: &[O], calls: [Call<S, I, O>; 2],
 ) -> Row {
-    let calls = calls.map(|call| move |from: &[I], to: &mut [O]| call(black_box(setting), from, to).map(|()| [0; 5]));
+    let calls = calls.map(|call| move |from: &[I], to: &mut [O]| call(black_box(setting), from, to).map(|()| Nothing));
     measure(name, repetitions, cells, input, output, from_ref(&(0..output.len())), calls)
 }
 
@@ -207,7 +217,7 @@ fn edit(name: &str, words: [u32; 4]) -> Row {
     let part = [0, 24, 40, layout.channels, 64, 64].into();
     let cells = draw::product(&[layout.channels, 64, 64]);
     let calls = [Table::edit, loops::edit]
-        .map(|call| move |from: &[i16], to: &mut [u8]| call(black_box(&table), SLOT, ID, black_box(part), from, to).map(|()| [0; 5]));
+        .map(|call| move |from: &[i16], to: &mut [u8]| call(black_box(&table), SLOT, ID, black_box(part), from, to).map(|()| Nothing));
     let written = lines(layout, [96 + 40, 80 + 24], bytes.len());
     measure(name, 1001, cells, &elements[..cells], &vec![LEFT; bytes.len()], &written, calls)
 }
@@ -221,7 +231,7 @@ fn release(name: &str, words: [u32; 4]) -> Row {
     let calls = [Table::release, loops::release].map(|call| {
         move |_: &[u8], to: &mut [u8]| {
             let mut table = *black_box(&table);
-            let answer = call(&mut table, SLOT, ID, to).map(|()| [0; 5]);
+            let answer = call(&mut table, SLOT, ID, to).map(|()| Nothing);
             black_box(&table);
             answer
         }
@@ -240,9 +250,7 @@ fn paint(name: &str, repetitions: usize, [format, width, height, precision]: [u3
     let pixels = Generator::new(SEED).bytes(draw::pixel_length(image));
     let cells = draw::element_count(layout);
     let calls = [Table::paint, loops::paint].map(|call| {
-        move |from: &[u8], to: &mut [u8]| {
-            call(black_box(&table), SLOT, ID, black_box(image), black_box(conversion), from, to).map(|()| [0; 5])
-        }
+        move |from: &[u8], to: &mut [u8]| call(black_box(&table), SLOT, ID, black_box(image), black_box(conversion), from, to).map(Held)
     });
     let (bytes, written) = (draw::buffer_length(layout), (image.channels * (1 + precision)) as usize);
     let written: Vec<Range<usize>> = (0..bytes).step_by(32).map(|atom| atom..atom + written).collect();
@@ -256,7 +264,7 @@ fn curve(name: &str) -> Row {
     let calls = [ours, loops::curve].map(|call| {
         move |_: &[u8], to: &mut [i16]| {
             to.chunks_exact_mut(257).for_each(|entries| call(entries.try_into().expect("257 entries")));
-            Ok([0; 5])
+            Ok(Nothing)
         }
     });
     let count = 257 * TABLES;
@@ -280,7 +288,7 @@ fn lookup(name: &str, l: &Lookup, samples: &[i32], run: usize) -> Row {
         move |samples: &[i32], outputs: &mut [i32]| {
             let mut kinds = [0; 5];
             let mut runs = samples.chunks(run).zip(outputs.chunks_mut(run));
-            runs.try_for_each(|(from, to)| call(black_box(l), xs, ys, from, to, &mut kinds)).map(|()| kinds)
+            runs.try_for_each(|(from, to)| call(black_box(l), xs, ys, from, to, &mut kinds)).map(|()| Kinds(kinds))
         }
     });
     measure(name, 31, if run == count { count } else { count / run }, samples, &vec![-1; count], from_ref(&(0..count)), calls)
@@ -311,7 +319,8 @@ One thread, timed by its own running time; release builds; every result was comp
 Figures are the best repetition, in brackets the median. A bar is met where both ratios meet it. Interrupted runs do not count, unless
 they are more than half. Of lookups in runs of 1 and 64 samples a cell is a run; of the curve a cell is a whole table.
 
-Painting: (d - 100) * 3 over 2^shift, shift 2 for int8 and 8 for int16, which holds no component; 1 where a third of them are held.
+Painting: (d - 100) * 3 over 2^shift to the nearest, shift 2 for int8 and 8 for int16, which holds no component; 1 where a third of them
+are held.
 
 Lookup settings: slopes (scale, shift) X below (3, 1), X above (-5, 0), Y below (7, -2), Y above (2, 4);
 Priority X, OverflowPriority X, UnderflowPriority Y; table entries drawn from all 16-bit numbers.
@@ -371,8 +380,16 @@ fn main() {
     }
     rows.push(curve(CURVE));
     println!("{EXPLAINED}");
-    for row in rows.iter().filter(|row| row.kinds != [0; 5]) {
-        println!("- {}: {:?}", row.name, row.kinds);
+    for row in &rows {
+        if let Kinds(kinds) = row.gives {
+            println!("- {}: {kinds:?}", row.name);
+        }
+    }
+    println!("\nComponents of a painting that were held:");
+    for row in &rows {
+        if let Held(count) = row.gives {
+            println!("- {}: {count} of {}", row.name, row.cells);
+        }
     }
     TABLES.iter().enumerate().for_each(|(number, (title, _))| print_table(title, &rows, number));
 }

@@ -10,7 +10,7 @@ const MARGIN: usize = 37;
 const FILL: u8 = 0xa5;
 
 /// Makes a call on both sides with the same arguments. After `;` stand what is lent for reading and what is lent for writing, both last in the
-/// call; each side writes to its own copy. Gives the accepted value, or what was left.
+/// call; each side writes to its own copy. Gives the accepted value, and then also what was left.
 macro_rules! compare {
     ($both:expr, $call:literal, $library:path, $reference:path, $($argument:expr),+) => {
         $both.same($call, $library($($argument),+), $reference($($argument),+), format_args!("{:?}", ($($argument,)+)))
@@ -54,20 +54,20 @@ impl Both {
         library.ok()
     }
 
-    /// The same of a call that is lent a copy of `before`, with margins on the library's side; gives what both left.
-    pub fn lend<T: Copy + PartialEq + From<u8> + Debug>(
-        &mut self, call: &'static str, before: &[T], case: Arguments, library: impl FnOnce(&mut [T]) -> Answer<()>,
-        reference: impl FnOnce(&mut [T]) -> Answer<()>,
-    ) -> Vec<T> {
+    /// The same of a call that is lent a copy of `before`, with margins on the library's side; gives also what both left.
+    pub fn lend<T: Copy + PartialEq + From<u8> + Debug, V: PartialEq + Debug>(
+        &mut self, call: &'static str, before: &[T], case: Arguments, library: impl FnOnce(&mut [T]) -> Answer<V>,
+        reference: impl FnOnce(&mut [T]) -> Answer<V>,
+    ) -> (Option<V>, Vec<T>) {
         let margin = [T::from(FILL); MARGIN];
         let mut ours = [&margin, before, &margin].concat();
         let mut theirs = before.to_vec();
         let lent = MARGIN..MARGIN + before.len();
-        self.same(call, library(&mut ours[lent.clone()]), reference(&mut theirs), case);
+        let value = self.same(call, library(&mut ours[lent.clone()]), reference(&mut theirs), case);
         same(call, &ours[lent.clone()], &theirs, case);
         let kept = ours[..lent.start] == margin && ours[lent.end..] == margin;
         assert!(kept, "{call}: the library wrote past what it was lent; case: {case}");
-        theirs
+        (value, theirs)
     }
 
     pub fn note(&mut self, call: &'static str, number: u32, times: u32) {

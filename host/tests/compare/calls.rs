@@ -93,24 +93,26 @@ impl Both {
 
     /// Packs, or edits; gives the bytes afterwards.
     pub fn write(&mut self, setting: Setting, elements: &[i16], old: &[u8]) -> Vec<u8> {
-        match setting {
+        let (_, left) = match setting {
             Cube(of) => compare!(self, "cube_pack", Layout::pack, cube::pack, of; elements, old),
             Kernels(of) => compare!(self, "weights_pack", Weights::pack, weights::pack, of; elements, old),
             Part(table, slot, id, part) => {
                 compare!(self, "regions_edit", Table::edit, regions::edit, &table, slot, id, part; elements, old)
             }
             Pixels(_) => panic!("{setting:?} has no elements"),
-        }
+        };
+        left
     }
 
     /// Unpacks, or reads; gives the elements afterwards.
     pub fn read(&mut self, setting: Setting, bytes: &[u8], old: &[i16]) -> Vec<i16> {
-        match setting {
+        let (_, left) = match setting {
             Cube(of) => compare!(self, "cube_unpack", Layout::unpack, cube::unpack, of; bytes, old),
             Kernels(of) => compare!(self, "weights_unpack", Weights::unpack, weights::unpack, of; bytes, old),
             Part(table, slot, id, part) => compare!(self, "regions_read", Table::read, regions::read, &table, slot, id, part; bytes, old),
             Pixels(_) => panic!("{setting:?} has no elements"),
-        }
+        };
+        left
     }
 
     pub fn empty(&self, layout: Layout) -> Table {
@@ -133,16 +135,22 @@ impl Both {
         let (before, mut plain) = (*table, *table);
         let case = format_args!("slot {slot} id {id} {before:?}, lent {} to write", old.len());
         let release = |to: &mut [u8]| table.release(slot, id, to);
-        let left = self.lend("regions_release", old, case, release, |to| regions::release(&mut plain, slot, id, to));
+        let (_, left) = self.lend("regions_release", old, case, release, |to| regions::release(&mut plain, slot, id, to));
         same("table", table.words(), plain.words(), case);
         left
     }
 
-    /// Paints a region; gives the bytes afterwards.
+    /// Paints a region; gives how many components were held, if it was accepted, and the bytes afterwards. Counts where none (0), some (1) or all
+    /// (2) were held.
     pub fn paint(
         &mut self, table: &Table, [slot, id]: [u32; 2], image: Image, conversion: Conversion, pixels: &[u8], old: &[u8],
-    ) -> Vec<u8> {
-        compare!(self, "parlour_paint", Table::paint, parlour::paint, table, slot, id, image, conversion; pixels, old)
+    ) -> (Option<u64>, Vec<u8>) {
+        let (held, left) = compare!(self, "parlour_paint", Table::paint, parlour::paint, table, slot, id, image, conversion; pixels, old);
+        if let Some(held) = held {
+            let all = held as usize == product(&[image.channels, image.height, image.width]);
+            self.note("components held", u32::from(held > 0) + u32::from(all), 1);
+        }
+        (held, left)
     }
 
     pub fn write_and_read(&mut self, setting: Setting, elements: &[i16], bytes: &[u8]) {

@@ -1,4 +1,4 @@
-//! A camera's picture into a region: every format and component, every width up to 600, and the order of the checks.
+//! A camera's picture into a region: every format and component, every width up to 600, how many components are held, and the order of the checks.
 
 use crate::both::{number, start, Both};
 use crate::calls::OWNER;
@@ -106,7 +106,7 @@ fn every_width() {
         let p = Painting::valid(&mut g, format, width, height, precision);
         both.painting(&mut g, &p);
     });
-    both.expect("parlour_paint: 0");
+    both.expect("components held: 0 1 2; parlour_paint: 0");
 }
 
 /// Every X offset of every format that is taken, widths at and beside powers of two, both precisions.
@@ -120,14 +120,16 @@ fn every_x_offset() {
         p.pixels = pixel_length(p.image);
         both.painting(&mut g, &p);
     });
-    both.expect("parlour_paint: 0");
+    both.expect("components held: 0 1 2; parlour_paint: 0");
 }
 
 /// Pictures of all components that a format can have: 256 in a row of T_R8, 65536 in a square of each format of 16 bits.
 #[test]
 fn every_component() {
     let (mut g, mut both) = start(82);
-    let conversions = [(0, 1, 0), (128, 1, 0), (0, 1, 8), (i16::MIN, -1, 8), (i16::MAX, i16::MIN, 31), (-1, 3, 1), (77, 0, 0), (9, -1, 31)];
+    let [low, high] = [i16::MIN, i16::MAX];
+    let conversions =
+        [(0, 1, 0), (128, 1, 0), (0, 1, 8), (low, -1, 8), (high, low, 31), (-1, 3, 1), (77, 0, 0), (9, -1, 31), (low, high, 0)];
     each!(format in PAINTED, precision in 0..=1, (offset, scale, shift) in conversions => {
         let [channels, bytes, ..] = pixels::format(format).expect("a format");
         let height = if bytes == channels { 1 } else { 256 };
@@ -140,7 +142,36 @@ fn every_component() {
         let old = g.bytes(buffer_length(layout));
         both.paint(&table, [3, OWNER], image, Conversion { offset, scale, shift }, &lent, &old);
     });
-    both.expect("parlour_paint: 0");
+    both.expect("components held: 0 1 2; parlour_paint: 0");
+}
+
+/// Pictures of components 254 and 255: half a step lies between 255 and the limit, so that each 255 is held, and no 254. Their number is counted as
+/// they are put.
+#[test]
+fn held_components() {
+    let (mut g, mut both) = start(87);
+    each!(format in PAINTED, precision in 0..=1, _ in 0..60 => {
+        let [width, height] = [g.among(1, 140), g.among(1, 3)];
+        let p = Painting::valid(&mut g, format, width, height, precision);
+        let [channels, bytes, ..] = pixels::format(format).expect("a format");
+        let mut lent = g.bytes(p.pixels);
+        let (odds, mut count) = (g.pick(&[0, 1, 2, 9]), 0);
+        each!(y in 0..height, x in 0..width, n in 0..channels => {
+            let held = odds != 0 && g.one_in(odds);
+            count += u64::from(held);
+            let at = pixels::position(p.image, x, y).expect("a pixel") as usize + (n * bytes / channels) as usize;
+            lent[at] = 254 + u8::from(held);
+            if bytes > channels {
+                lent[at + 1] = 0;
+            }
+        });
+        // 255 over 2, and 255 * 257 over 2, which is 65535 over 2.
+        let conversion = Conversion { offset: 0, scale: [1, 257][precision as usize], shift: 1 };
+        let (table, old) = (with_slot(p.layout, p.slot as usize, p.region), g.bytes(p.bytes));
+        let (held, _) = both.paint(&table, [p.slot, p.id], p.image, conversion, &lent, &old);
+        assert_eq!(held, Some(count), "{p:?}");
+    });
+    both.expect("components held: 0 1 2; parlour_paint: 0");
 }
 
 /// Each rule broken alone and with each later one: the first in the order is told.
@@ -183,7 +214,7 @@ fn damaged_paintings() {
         }
         both.painting(&mut g, &p);
     }
-    both.expect(PAINT);
+    both.expect(&format!("components held: 0 1 2; {PAINT}"));
 }
 
 /// The readings that the request's words leave to a reader: a frame, its stall, the id that is given, an image, how many bytes of pixels and of
@@ -225,7 +256,7 @@ fn readings() {
         both.paint(&table, [4, id], image.into(), Conversion { offset: 0, scale: 1, shift: 0 }, &pixels, &old);
         assert_eq!(number(&both.last), answer, "{layout:?} {words:?} {image:?}");
     }
-    both.expect("parlour_paint: 0 1 2 3 5 8 9 25 29 30");
+    both.expect("components held: 0 1 2; parlour_paint: 0 1 2 3 5 8 9 25 29 30");
 }
 
 /// A whole frame of 640×480, and a picture of 8192 columns.
@@ -239,5 +270,5 @@ fn large_pictures() {
         let (pixels, old) = (g.bytes(pixel_length(image)), g.bytes(buffer_length(layout)));
         both.paint(&table, [0, OWNER], image, g.conversion(), &pixels, &old);
     });
-    both.expect("parlour_paint: 0");
+    both.expect("components held: 0 1 2; parlour_paint: 0");
 }

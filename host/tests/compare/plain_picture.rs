@@ -1,7 +1,7 @@
 //! The plain picture: a raw tensor and sixteen slots, fed the calls of a list, never the packed bytes.
 
 use crate::draw::{buffer_length, product};
-use crate::reference::{cube, each, parlour, refuse, require};
+use crate::reference::{convert, cube, each, parlour, refuse, require};
 use olsketina::{Answer, Conversion, ElementBox, Image, Layout, Refusal, Region};
 
 /// Its layout is valid.
@@ -18,6 +18,14 @@ pub struct PlainPicture {
 fn covers(region: Region, x: u64, y: u64) -> bool {
     let [left, top, across, down] = <[u32; 4]>::from(region).map(u64::from);
     (left..left + across).contains(&x) && (top..top + down).contains(&y)
+}
+
+/// Whether a component lies half a step or more past a limit of a precision, before it is rounded.
+fn beyond(d: i32, conversion: Conversion, precision: u32) -> bool {
+    let twice = 2 * (i128::from(d) - i128::from(conversion.offset)) * i128::from(conversion.scale);
+    let (low, high) = convert::limits(precision);
+    let halves = |count: i128| count << conversion.shift;
+    twice >= halves(2 * high + 1) || twice <= halves(2 * low - 1)
 }
 
 impl PlainPicture {
@@ -95,12 +103,14 @@ impl PlainPicture {
         Ok(())
     }
 
-    /// An edit of the whole region with the picture's components, converted.
-    pub fn paint(&mut self, slot: u32, id: u32, image: Image, conversion: Conversion, pixels: &[u8], bytes: usize) -> Answer<()> {
+    /// An edit of the whole region with the picture's components, converted; gives how many of them are held, counted before they are converted.
+    pub fn paint(&mut self, slot: u32, id: u32, image: Image, conversion: Conversion, pixels: &[u8], bytes: usize) -> Answer<u64> {
         parlour::check_picture(self.layout, image, conversion, pixels.len())?;
         let Region { columns, rows, .. } = self.region(slot, id)?;
         require([image.width, image.height] == [columns, rows], 9)?;
         let part = [0, 0, 0, self.layout.channels, rows, columns].into();
-        self.edit(slot, id, part, &parlour::elements(image, conversion, self.layout.precision, pixels), bytes)
+        self.edit(slot, id, part, &parlour::elements(image, conversion, self.layout.precision, pixels), bytes)?;
+        let components = parlour::components(image, pixels);
+        Ok(components.into_iter().filter(|&d| beyond(d, conversion, self.layout.precision)).count() as u64)
     }
 }

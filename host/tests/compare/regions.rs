@@ -6,6 +6,7 @@ use crate::draw::{buffer_length, element_count, pixel_length, product, with_slot
 use crate::plain_picture::PlainPicture;
 use crate::reference::{each, parlour};
 use olsketina::{Answer, Conversion, ElementBox, Image, Layout, Region, Table};
+use std::fmt::Debug;
 
 /// A table and a buffer, alike on both sides after every call, and the cases compared. The plain picture, where there is one, is fed each call.
 struct Session {
@@ -35,18 +36,21 @@ impl Session {
         self.picture = Some(PlainPicture { layout, before, elements, slots: [None; 16] });
     }
 
-    /// After a call: makes it on the plain picture, with as much of the buffer; the answers agree, and the buffer is what it must be.
-    fn beside(&mut self, call: &'static str, plain: impl FnOnce(&mut PlainPicture, usize) -> Answer<()>) {
+    /// After a call that gave an answer: makes it on the plain picture, with as much of the buffer; the answers agree, and the buffer is what it
+    /// must be.
+    fn beside<V: PartialEq + Debug>(
+        &mut self, call: &'static str, answer: Answer<V>, plain: impl FnOnce(&mut PlainPicture, usize) -> Answer<V>,
+    ) {
         let Some(picture) = &mut self.picture else { return };
         let case = format_args!("{:?}", self.table);
-        self.both.same(call, self.both.last, plain(picture, self.lent), case);
+        self.both.same(call, answer, plain(picture, self.lent), case);
         same("buffer beside the plain picture", &self.buffer, &picture.buffer(), case);
     }
 
     fn place(&mut self, slot: u32, id: u32, region: impl Into<Region>) -> bool {
         let region = region.into();
         self.both.place(&mut self.table, slot, id, region);
-        self.beside("place beside the plain picture", |picture, _| picture.place(slot, id, region));
+        self.beside("place beside the plain picture", self.both.last, |picture, _| picture.place(slot, id, region));
         self.both.last.is_ok()
     }
 
@@ -54,7 +58,7 @@ impl Session {
     fn edit(&mut self, slot: u32, id: u32, part: ElementBox, elements: &[i16]) -> bool {
         let lent = &mut self.buffer[..self.lent];
         lent.copy_from_slice(&self.both.write(Part(self.table, slot, id, part), elements, lent));
-        self.beside("edit beside the plain picture", |picture, bytes| picture.edit(slot, id, part, elements, bytes));
+        self.beside("edit beside the plain picture", self.both.last, |picture, bytes| picture.edit(slot, id, part, elements, bytes));
         self.both.last.is_ok()
     }
 
@@ -62,7 +66,7 @@ impl Session {
     fn read(&mut self, slot: u32, id: u32, part: ElementBox, old: &[i16]) -> Vec<i16> {
         let left = self.both.read(Part(self.table, slot, id, part), &self.buffer[..self.lent], old);
         let mut plain = old.to_vec();
-        self.beside("read beside the plain picture", |picture, bytes| {
+        self.beside("read beside the plain picture", self.both.last, |picture, bytes| {
             let answer = picture.read(slot, id, part, &mut plain, bytes);
             same("elements beside the plain picture", &left, &plain, format_args!("slot {slot} id {id} {part:?}"));
             answer
@@ -74,7 +78,7 @@ impl Session {
     fn release(&mut self, slot: u32, id: u32) -> bool {
         let lent = &mut self.buffer[..self.lent];
         lent.copy_from_slice(&self.both.release(&mut self.table, slot, id, lent));
-        self.beside("release beside the plain picture", |picture, bytes| picture.release(slot, id, bytes));
+        self.beside("release beside the plain picture", self.both.last, |picture, bytes| picture.release(slot, id, bytes));
         self.both.last.is_ok()
     }
 
@@ -93,8 +97,10 @@ impl Session {
     /// Paints a region; whether that was accepted.
     fn paint(&mut self, slot: u32, id: u32, image: Image, conversion: Conversion, pixels: &[u8]) -> bool {
         let lent = &mut self.buffer[..self.lent];
-        lent.copy_from_slice(&self.both.paint(&self.table, [slot, id], image, conversion, pixels, lent));
-        self.beside("paint beside the plain picture", |picture, bytes| picture.paint(slot, id, image, conversion, pixels, bytes));
+        let (held, left) = self.both.paint(&self.table, [slot, id], image, conversion, pixels, lent);
+        lent.copy_from_slice(&left);
+        let answer = self.both.last.map(|()| held.expect("it was accepted"));
+        self.beside("paint beside the plain picture", answer, |picture, bytes| picture.paint(slot, id, image, conversion, pixels, bytes));
         self.both.last.is_ok()
     }
 
@@ -182,7 +188,8 @@ impl Session {
 }
 
 /// What the calls of a list answer.
-const LISTS: &str = "parlour_paint: 0 1 2 3 4 5 8 9 16 19 20 21 22 25 29 30; regions_count: 0 1 2 3 4 8 9 25; regions_edit: 0 1 2 3 4 5 6 7 8 9 25; regions_place: 0 1 2 3 4 8 9 10 25; \
+const LISTS: &str = "components held: 0 1 2; parlour_paint: 0 1 2 3 4 5 8 9 16 19 20 21 22 25 29 30; regions_count: 0 1 2 3 4 8 9 25; \
+    regions_edit: 0 1 2 3 4 5 6 7 8 9 25; regions_place: 0 1 2 3 4 8 9 10 25; \
     regions_position: 0 1 2 3 4 8 9 25; regions_read: 0 1 2 3 4 5 6 8 9 25; regions_release: 0 1 2 3 4 5 8 9 25";
 
 #[test]
@@ -220,7 +227,7 @@ fn lists_of_calls_beside_the_plain_picture() {
         (0..40).for_each(|_| session.any_call(&mut g));
     }
     session.both.expect(
-        "cube_pack: 0; edit beside the plain picture: 0 5 6 7 8 9 25; \
+        "components held: 0 1 2; cube_pack: 0; edit beside the plain picture: 0 5 6 7 8 9 25; \
          paint beside the plain picture: 0 1 2 5 8 9 16 19 20 21 22 25 29 30; parlour_paint: 0 1 2 5 8 9 16 19 20 21 22 25 29 30; \
          place beside the plain picture: 0 8 9 10 25; \
          read beside the plain picture: 0 5 6 8 9 25; regions_count: 0 8 25; regions_edit: 0 5 6 7 8 9 25; \

@@ -1,8 +1,8 @@
 //! The scope paper's worked cases, its sheet and the change requests' cases, through the library alone.
 
 use olsketina::{
-    camera, convert, header_text, Answer, Choice, Conversion, Counters, Image, Layout, Lookup, Mode, Refusal, Sheet, Slope, Table,
-    TableSettings, Weights,
+    camera, convert, header_text, Answer, Choice, Conversion, Converted, Counters, Image, Layout, Lookup, Mode, Refusal, Sheet, Slope,
+    Table, TableSettings, Weights,
 };
 
 fn refused<T>(number: u32) -> Answer<T> {
@@ -92,7 +92,16 @@ fn images() {
 
 #[test]
 fn conversions() {
-    assert_eq!([convert(100, 128, 3, 2, 0), convert(100, 128, 3, 2, 1), convert(255, 0, 1, 0, 0)], [Ok(-21), Ok(-21), Ok(127)]);
+    let gives = |value, held| Ok(Converted { value, held });
+    assert_eq!([convert(100, 128, 3, 2, 0), convert(100, 128, 3, 2, 1)], [gives(-21, false); 2]);
+    assert_eq!([convert(255, 0, 1, 0, 0), convert(255, 0, 1, 0, 1)], [gives(127, true), gives(255, false)]);
+    // To the nearest, halves away from zero: 130 less 128 over 4 is a half; -81 over 4 is -20.25.
+    assert_eq!([126, 127, 129, 130].map(|d| convert(d, 128, 1, 2, 0)), [-1, 0, 0, 1].map(|value| gives(value, false)));
+    assert_eq!(convert(101, 128, 3, 2, 0), gives(-20, false));
+    // Rounded, then held: 254 over 2 is 127, 255 over 2 is 128.
+    assert_eq!([254, 255].map(|d| convert(d, 0, 1, 1, 0)), [gives(127, false), gives(127, true)]);
+    assert_eq!([-256, -257].map(|d| convert(d, 0, 1, 1, 0)), [gives(-128, false), gives(-128, true)]);
+    assert_eq!([convert(255, 0, 1, 32, 2), convert(255, 0, 1, 32, 0)], [refused(2), refused(16)]);
 }
 
 /// A picture of 2×2 of T_A8B8G8R8, X offset 1, into the stall of two columns and rows from (1, 1) of a frame of 4×3, channels 4, int8.
@@ -107,7 +116,7 @@ fn picture() {
     pixels[68..76].copy_from_slice(&[10, 20, 30, 40, 50, 60, 70, 80]);
     let mut buffer = [0xee; 384];
     let middle = Conversion { offset: 128, scale: 1, shift: 0 };
-    assert_eq!(desk.paint(2, 7, image, middle, &pixels, &mut buffer), Ok(()));
+    assert_eq!(desk.paint(2, 7, image, middle, &pixels, &mut buffer), Ok(0));
     let mut expected = [0xee; 384];
     expected[160..164].copy_from_slice(&[0x80, 0x81, 0xff, 0x00]);
     expected[192..196].copy_from_slice(&[0x01, 0x7f, 0xe4, 0x48]);
@@ -120,9 +129,19 @@ fn picture() {
     assert_eq!(desk.paint(2, 7, Image { width: 1, ..image }, middle, &pixels, &mut buffer), refused(9));
     assert_eq!(desk.paint(2, 7, image, middle, &pixels, &mut buffer[..383]), refused(5));
     assert_eq!(buffer, expected);
+
+    // Half as much again: 1 is 2, 127 and more are past 127; of the first pixel two are held, of the second all four.
+    let brighter = Conversion { offset: 0, scale: 3, shift: 1 };
+    assert_eq!(desk.paint(2, 7, image, brighter, &pixels, &mut buffer), Ok(6));
+    expected[160..164].copy_from_slice(&[0, 2, 127, 127]);
+    expected[192..196].copy_from_slice(&[127; 4]);
+    expected[288..292].copy_from_slice(&[15, 30, 45, 60]);
+    expected[320..324].copy_from_slice(&[75, 90, 105, 120]);
+    assert_eq!(buffer, expected);
+    assert_eq!(desk.paint(2, 7, image, Conversion { offset: 0, scale: 1, shift: 0 }, &pixels, &mut buffer), Ok(4));
 }
 
-/// One pixel into a frame of one cell of int16, or of int8.
+/// One pixel into a frame of one cell of int16, or of int8: its bytes, and how many were held.
 #[test]
 fn pixels_of_one_component() {
     let painted = |precision, format, pixel: [u8; 2], [offset, scale, shift]: [i16; 3]| {
@@ -130,20 +149,23 @@ fn pixels_of_one_component() {
         let mut buffer = [0xee; 32];
         assert_eq!(desk.place(0, 1, [0, 0, 1, 1].into()), Ok(()));
         let conversion = Conversion { offset, scale, shift: shift as u32 };
-        assert_eq!(desk.paint(0, 1, [format, 1, 1, 1, 1, 0, 0, 32].into(), conversion, &pixel, &mut buffer), Ok(()));
+        let held = desk.paint(0, 1, [format, 1, 1, 1, 1, 0, 0, 32].into(), conversion, &pixel, &mut buffer).expect("accepted");
         assert_eq!(buffer[2..], [0xee; 30]);
-        [buffer[0], buffer[1]]
+        ([buffer[0], buffer[1]], held)
     };
-    // T_R16_I: FE FF is -2; over 4 that is -1, rounded down. As T_R16 it is 65534, held to 32767.
-    assert_eq!(painted(1, 4, [0xfe, 0xff], [0, 1, 0]), [0xfe, 0xff]);
-    assert_eq!(painted(1, 4, [0xfe, 0xff], [0, 1, 2]), [0xff, 0xff]);
-    assert_eq!(painted(1, 3, [0xfe, 0xff], [0, 1, 0]), [0xff, 0x7f]);
+    // T_R16_I: FE FF is -2; over 4 that is -0.5, so -1, over 8 it is 0. As T_R16 it is 65534, held to 32767; over 2 it is not.
+    assert_eq!(painted(1, 4, [0xfe, 0xff], [0, 1, 0]), ([0xfe, 0xff], 0));
+    assert_eq!(painted(1, 4, [0xfe, 0xff], [0, 1, 2]), ([0xff, 0xff], 0));
+    assert_eq!(painted(1, 4, [0xfe, 0xff], [0, 1, 3]), ([0x00, 0x00], 0));
+    assert_eq!(painted(1, 3, [0xfe, 0xff], [0, 1, 0]), ([0xff, 0x7f], 1));
+    assert_eq!(painted(1, 3, [0xfe, 0xff], [0, 1, 1]), ([0xff, 0x7f], 0));
+    assert_eq!(painted(1, 3, [0xff, 0xff], [0, 1, 1]), ([0xff, 0x7f], 1));
     // T_R12: of F7 A5 the low twelve bits are 5F7, T_R10 has 1F7.
-    assert_eq!(painted(1, 2, [0xf7, 0xa5], [0, 1, 0]), [0xf7, 0x05]);
-    assert_eq!(painted(1, 1, [0xf7, 0xa5], [0, 1, 0]), [0xf7, 0x01]);
+    assert_eq!(painted(1, 2, [0xf7, 0xa5], [0, 1, 0]), ([0xf7, 0x05], 0));
+    assert_eq!(painted(1, 1, [0xf7, 0xa5], [0, 1, 0]), ([0xf7, 0x01], 0));
     // T_R16 into int8: 300 is held to 127, 300 - 428 = -128 is not.
-    assert_eq!(painted(0, 3, [0x2c, 0x01], [0, 1, 0]), [0x7f, 0xee]);
-    assert_eq!(painted(0, 3, [0x2c, 0x01], [428, 1, 0]), [0x80, 0xee]);
+    assert_eq!(painted(0, 3, [0x2c, 0x01], [0, 1, 0]), ([0x7f, 0xee], 1));
+    assert_eq!(painted(0, 3, [0x2c, 0x01], [428, 1, 0]), ([0x80, 0xee], 0));
 }
 
 #[test]

@@ -1,10 +1,10 @@
-//! A camera's picture into a region (change request K3): each component of a pixel, converted, becomes an element.
+//! A camera's picture into a region (change request K3): each component of a pixel, converted, becomes an element; how many were held (K5).
 
 use super::convert::convert;
 use super::elements::write;
 use super::regions::{whole, InCube};
 use super::{pixels, require};
-use olsketina::{Answer, Conversion, Image, Layout, Refusal, Table};
+use olsketina::{Answer, Conversion, Converted, Image, Layout, Refusal, Table};
 
 /// The byte at which pixel (x, y) begins, of so many bytes a pixel.
 fn pixel(image: Image, bytes: i128, x: i128, y: i128) -> i128 {
@@ -46,22 +46,34 @@ fn component(format: u32, size: i128, pixels: &[u8], at: usize) -> i32 {
     }
 }
 
-/// The picture's components, converted to a precision, in raw order; all is checked.
-pub fn elements(image: Image, conversion: Conversion, precision: u32, pixels: &[u8]) -> Vec<i16> {
+/// The picture's components, in raw order; all is checked.
+pub fn components(image: Image, pixels: &[u8]) -> Vec<i32> {
     let bytes = pixels::checked(image).expect("a valid image");
     let [channels, height, width] = [image.channels, image.height, image.width].map(i128::from);
     let size = bytes / channels;
-    let mut elements = Vec::new();
+    let mut components = Vec::new();
     each!(n in 0..channels, y in 0..height, x in 0..width => {
-        let d = component(image.format, size, pixels, (pixel(image, bytes, x, y) + n * size) as usize);
-        elements.push(convert(d, conversion.offset, conversion.scale, conversion.shift, precision).expect("a valid conversion"));
+        components.push(component(image.format, size, pixels, (pixel(image, bytes, x, y) + n * size) as usize));
     });
-    elements
+    components
 }
 
-pub fn paint(table: &Table, slot: u32, id: u32, image: Image, conversion: Conversion, pixels: &[u8], buffer: &mut [u8]) -> Answer<()> {
+/// The same, converted to a precision.
+fn converted(image: Image, conversion: Conversion, precision: u32, pixels: &[u8]) -> Vec<Converted> {
+    let Conversion { offset, scale, shift } = conversion;
+    let component = |d| convert(d, offset, scale, shift, precision).expect("a valid conversion");
+    components(image, pixels).into_iter().map(component).collect()
+}
+
+/// The elements that the components become, in raw order; all is checked.
+pub fn elements(image: Image, conversion: Conversion, precision: u32, pixels: &[u8]) -> Vec<i16> {
+    converted(image, conversion, precision, pixels).into_iter().map(|of| of.value).collect()
+}
+
+pub fn paint(table: &Table, slot: u32, id: u32, image: Image, conversion: Conversion, pixels: &[u8], buffer: &mut [u8]) -> Answer<u64> {
     let InCube { cube, first, sizes } = admitted(table, slot, id, image, conversion, pixels.len(), buffer.len())?;
-    let elements = elements(image, conversion, cube.precision as u32, pixels);
+    let converted = converted(image, conversion, cube.precision as u32, pixels);
+    let elements: Vec<i16> = converted.iter().map(|of| of.value).collect();
     write(cube.precision, &elements, buffer, cube.positions(first, sizes));
-    Ok(())
+    Ok(converted.iter().filter(|of| of.held).count() as u64)
 }
