@@ -127,7 +127,7 @@ fn call(state: State, elements: &mut [i16], buffer: &mut [u8], samples: &[i32]) 
 }
 
 // `paint`; prints its answer, how many components were held, and the buffer that it left.
-fn paint(state: State, elements: &[i16], buffer: &mut [u8], samples: &[i32]) -> State {
+fn painted(state: State, elements: &[i16], buffer: &mut [u8], samples: &[i32]) -> State {
     let line = state.line;
     let n = line.numbers;
     let before = state.table;
@@ -161,7 +161,7 @@ fn run_lent(state: State, elements: &mut [i16], buffer: &mut [u8], samples: &mut
             sheet::run(line.number, buffer);
             state
         }
-        52 => paint(state, elements, buffer, samples),
+        52 => painted(state, elements, buffer, samples),
         _ => call(state, elements, buffer, samples),
     }
 }

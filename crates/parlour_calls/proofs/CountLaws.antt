@@ -5,10 +5,11 @@ use Prim.Native.Nat.{ℕ, _+_, _*_, _/_, _≤_, _<_}
 use native.Mathlib.Omega.{arith}
 use native.Mathlib.Nat.{mul-comm}
 use mathlib.Core.Path.{_≡_, refl, sym, ap, _∙_}
-use mathlib.Core.Bool.{Bool, true, false, cond}
+use mathlib.Core.Bool.{cond}
 use mathlib.Core.List.{List}
 use lib.IntN.{ℤ}
 use mir.Val.{boolByte}
+use Rattle.general.proofs.Casts.{bool-number}
 use Rattle.pixels.specs.declared.PixelFormat.{PixelFormat}
 use Rattle.pixels.specs.declared.PixelSetting.{PixelSetting}
 use Rattle.pixels.specs.Formats.{formatOf}
@@ -31,13 +32,9 @@ module _ (code : ℕ) (k : Conversion) (p : ℕ) (pixels : List ℕ) (at step : 
   unfolding runHeld
   run-none = total-none one
 
-  as-number : (b : Bool) → boolByte b ≡ cond b 1 0
-  as-number true = refl
-  as-number false = refl
-
   counts : (i : ℕ) {c : Converted} → c ≡ conversion (componentAt code pixels (at + step * i)) (k .offset) (k .scale) (k .shift) p → boolByte (c .held) ≡ one i
   unfolding heldOne
-  counts i {c} e = as-number (c .held) ∙ ap (λ (x : Converted). cond (x .held) 1 0) e
+  counts i {c} e = bool-number (c .held) ∙ ap (λ (x : Converted). cond (x .held) 1 0) e
 
   pub run-more : (i : ℕ) {held : ℕ} {c : Converted} → held ≡ runHeld code k p pixels at step i
       → c ≡ conversion (componentAt code pixels (at + step * i)) (k .offset) (k .scale) (k .shift) p → held + boolByte (c .held) ≡ runHeld code k p pixels at step (i + 1)

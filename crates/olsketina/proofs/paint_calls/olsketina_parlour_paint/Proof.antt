@@ -5,11 +5,11 @@ use Rattle.olsketina.proofs.paint_calls.olsketina_parlour_paint.Stateme
 use Rattle.olsketina.proofs.paint_calls.olsketina_parlour_paint.Tie as tie
 
 returns : tie.Need-returns
-returns c = let p = c .before .before .before .before in
+returns c = let p = c .before .before .before .before .before in
     let i = p .before .before in
     let f = i .before .before .before .before .before .fits in
     let e = simp (toZ-ofZ (f .offset), toZ-ofZ (f .scale)) at (p .paint .ensures) in
-    rw (← i .before .table-at .ensures, ← i .image-of .ensures, ← e .0) (c .give .ensures, e .1 .1)
+    rw (← i .before .table-at .ensures, ← i .image-of .ensures, ← e .0) (c .give-quantity .ensures, e .1 .1)
 
 pub olsketina-parlour-paint-spec : {M : Type 1} → statement M
 olsketina-parlour-paint-spec =

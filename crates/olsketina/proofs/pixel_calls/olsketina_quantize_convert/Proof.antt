@@ -6,8 +6,8 @@ use Rattle.olsketina.proofs.pixel_calls.olsketina_quantize_convert.Tie 
 
 returns : tie.Need-returns
 returns c =
-    let f = c .before .before .before .before .fits in
-    let e = simp (toZ-ofZ (f .d), toZ-ofZ (f .offset), toZ-ofZ (f .scale)) at (c .before .before .before .convert .ensures) in
+    let f = c .before .before .before .before .before .fits in
+    let e = simp (toZ-ofZ (f .d), toZ-ofZ (f .offset), toZ-ofZ (f .scale)) at (c .before .before .before .before .convert .ensures) in
     rw (← e) (c .give-converted .ensures)
 
 pub olsketina-quantize-convert-spec : {M : Type 1} → statement M
