@@ -1,18 +1,14 @@
 -- How many components are held, as the code counts them: run by run of a strip, strip by strip of a row. Assumes nothing.
 --     run-none, run-more, run-le      a run: no component, one more, how many at most
 --     strip-of, strip-le              the runs of a strip are its pixels
-use Prim.Native.Nat.{ℕ, _+_, _*_, _/_, _≤_, _<_}
+use Prim.Native.Nat.{ℕ, _+_, _*_, _≤_}
 use native.Mathlib.Omega.{arith}
-use native.Mathlib.Nat.{mul-comm}
-use mathlib.Core.Path.{_≡_, refl, sym, ap, _∙_}
+use mathlib.Core.Path.{_≡_, sym, ap, _∙_}
 use mathlib.Core.Bool.{cond}
 use mathlib.Core.List.{List}
-use lib.IntN.{ℤ}
 use mir.Val.{boolByte}
 use Rattle.general.proofs.Casts.{bool-number}
-use Rattle.pixels.specs.declared.PixelFormat.{PixelFormat}
 use Rattle.pixels.specs.declared.PixelSetting.{PixelSetting}
-use Rattle.pixels.specs.Formats.{formatOf}
 use Rattle.pixels.specs.Settings.{pixelBytes, pixelPosition}
 use Rattle.quantize.specs.declared.Converted.{Converted}
 use Rattle.quantize.specs.Quantize.{conversion}

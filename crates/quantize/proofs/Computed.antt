@@ -1,14 +1,13 @@
 -- Conversion, computed (scope paper, "Worked on squared paper"; "Refusal numbers": "Orders"; change request K5). Assumes nothing.
 use Prim.Native.Nat.{ℕ}
 use mathlib.Core.Path.{_≡_, refl}
-use mathlib.Core.Bool.{Bool, true, false, _||_}
+use mathlib.Core.Bool.{true, false}
 use mathlib.Core.List.{[], _∷_, map}
 use lib.IntN.{ℤ, pos, negsuc}
 use Rattle.refusal.specs.declared.Refusal.the-variants.{Precision, Shift}
 use Rattle.refusal.specs.Codes.{answerCode}
 use Rattle.refusal.specs.Checks.{requireAt, inOrder, result}
 use Rattle.integers.specs.Saturate.{saturate, beyond}
-use Rattle.quantize.specs.declared.Converted.{Converted}
 use Rattle.quantize.specs.declared.Quantized.{Quantized}
 use Rattle.quantize.specs.declared.Quantized.the-variants.{Value, Refused as NotGiven}
 use Rattle.quantize.specs.Quantize.{lowest, highest, quantizeChecks, nearestOf, nearest, rounded, quantized, limited, quantizeAnswer, quantizedAnswer, quantizedValue, quantizedHeld}

@@ -19,7 +19,7 @@ use borrow.Author.Tests.{lt-leb, le-leb}
 use mir.Syntax.{w64}
 use mir.Val.{SFits}
 use mir.Facts.{toZ-ofZ}
-use Rattle.general.proofs.UpDown.{up, dn, add-ud, neg-up, neg-dn, ltZ-true, ltZ-false}
+use Rattle.general.proofs.UpDown.{add-ud, neg-up, neg-dn, ltZ-true, ltZ-false}
 use Rattle.general.proofs.FloorLaws.{shr-is}
 use Rattle.general.proofs.Ranges.{Within, within-add, within-shr, within-fits}
 use Rattle.general.proofs.NumberLaws.{nat-within, abs-within, held}

@@ -2,7 +2,7 @@
 --     diff-fits, product-fits     the difference and the product are below 2 ^ 63
 --     product-value               the product, read back
 --     product-small               its magnitude
-use Prim.Native.Nat.{ℕ, _+_, _*_, _^_, _≤_}
+use Prim.Native.Nat.{_+_, _*_, _^_, _≤_}
 use native.Mathlib.Omega.{arith}
 use mathlib.Core.Path.{_≡_, sym, subst, _∙_}
 use lib.Dec.{lit<}

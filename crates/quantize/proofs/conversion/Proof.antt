@@ -1,6 +1,6 @@
 -- `quantize::conversion` meets its contract: it saturates the rounded number to the limits of its precision, which fit 16 bits, and tells whether the number lies
 -- beyond them. Assumes nothing.
-use Prim.Native.Nat.{ℕ, _^_}
+use Prim.Native.Nat.{_^_}
 use mathlib.Core.Path.{_≡_, sym, ap, subst, _∙_}
 use lib.IntN.{ℤ}
 use borrow.Author.Needs.{needs, sfits-of}
@@ -8,7 +8,8 @@ use mir.Syntax.{w16, w64}
 use mir.Val.{SFits}
 use mir.Facts.{toZ-ofZ}
 use Rattle.general.proofs.Casts.{cast-fits, cast-value}
-use Rattle.quantize.specs.Quantize.{nearest, rounded, quantized, limited}
+use Rattle.general.proofs.NumberLaws.{held as back}
+use Rattle.quantize.specs.Quantize.{lowest, highest, nearest, rounded, quantized, limited}
 use Rattle.quantize.proofs.AnswerLaws.{quantized-fits, saturated-value, beyond-limited}
 use Rattle.quantize.proofs.conversion.Statement.{statement}
 use Rattle.quantize.proofs.conversion.Tie as tie
@@ -26,39 +27,31 @@ abbrev start : tie.After-highest → tie.Start
 start c = c .before .before .before .before
 
 -- the limits and the rounded number, as both calls are handed them
-module _ (h : tie.After-highest) where
-  abbrev value : ℤ
-  value = let a = start h .args in quantized (a .d) (a .offset) (a .scale) (a .shift) (a .precision)
-
-  value-fits : SFits w16 value
-  value-fits = let a = start h .args in quantized-fits (a .d) (a .offset) (a .scale) (a .shift) (a .precision)
-
-value-is : (c : tie.After-saturate) → c .saturate .result ≡ value (c .before)
-value-is c =
-    let h = c .before in
+given : (h : tie.After-highest) → let a = start h .args in
+    (back (h .before .lowest .result) ≡ lowest (a .precision)) × (back (h .highest .result) ≡ highest (a .precision)) × (back (h .before .before .nearest .result) ≡ rounded (a .d) (a .offset) (a .scale) (a .shift))
+given h =
     let l = h .before in
-    let n = l .before in
-    let a = start h .args in
-    c .saturate .ensures
-    ∙ saturated-value (a .d) (a .offset) (a .scale) (a .shift) (a .precision)
-    (toZ-ofZ (sfits-of (l .lowest .ok)) ∙ l .lowest .ensures)
-    (toZ-ofZ (sfits-of (h .highest .ok)) ∙ h .highest .ensures)
-    (toZ-ofZ (sfits-of (n .nearest .ok)) ∙ rounded-is n)
+    let n = l .before in (
+      toZ-ofZ (sfits-of (l .lowest .ok)) ∙ l .lowest .ensures,
+      toZ-ofZ (sfits-of (h .highest .ok)) ∙ h .highest .ensures,
+      toZ-ofZ (sfits-of (n .nearest .ok)) ∙ rounded-is n,
+    )
+
+value-is : (c : tie.After-saturate) → let a = start (c .before) .args in c .saturate .result ≡ quantized (a .d) (a .offset) (a .scale) (a .shift) (a .precision)
+value-is c =
+    let a = start (c .before) .args in
+    let g = given (c .before) in
+    c .saturate .ensures ∙ saturated-value (a .d) (a .offset) (a .scale) (a .shift) (a .precision) (g .0) (g .1) (g .2)
 
 result-fits : (c : tie.After-saturate) → SFits w16 (c .saturate .result)
-result-fits c = subst (λ (z : ℤ). SFits w16 z) (sym (value-is c)) (value-fits (c .before))
+result-fits c = let a = start (c .before) .args in
+    subst (λ (z : ℤ). SFits w16 z) (sym (value-is c)) (quantized-fits (a .d) (a .offset) (a .scale) (a .shift) (a .precision))
 
 held-is : (c : tie.After-beyond) → let a = start (c .before .before) .args in c .beyond .result ≡ limited (a .d) (a .offset) (a .scale) (a .shift) (a .precision)
 held-is c =
-    let h = c .before .before in
-    let l = h .before in
-    let n = l .before in
-    let a = start h .args in
-    c .beyond .ensures
-    ∙ beyond-limited (a .d) (a .offset) (a .scale) (a .shift) (a .precision)
-    (toZ-ofZ (sfits-of (l .lowest .ok)) ∙ l .lowest .ensures)
-    (toZ-ofZ (sfits-of (h .highest .ok)) ∙ h .highest .ensures)
-    (toZ-ofZ (sfits-of (n .nearest .ok)) ∙ rounded-is n)
+    let a = start (c .before .before) .args in
+    let g = given (c .before .before) in
+    c .beyond .ensures ∙ beyond-limited (a .d) (a .offset) (a .scale) (a .shift) (a .precision) (g .0) (g .1) (g .2)
 
 scaled-requires : tie.Need-scaled-requires
 scaled-requires c κs = search needs

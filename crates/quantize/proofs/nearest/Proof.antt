@@ -1,14 +1,12 @@
 -- `quantize::nearest` meets its contract: what is added fits 32 bits, the sum 64, and shifted down it is the nearest number. Assumes nothing.
 use Prim.Native.Nat.{ℕ, _*_, _%_, _^_, _≤_}
 use native.Mathlib.Omega.{arith}
-use mathlib.Core.Path.{_≡_, sym, ap, subst, _∙_}
+use mathlib.Core.Path.{_≡_, sym, ap, _∙_}
 use mathlib.Core.Logic.{⊎-elim}
 use lib.Pow.{pow-pos}
 use lib.IntN.{ℤ, pos, _+ℤ_}
 use lib.Signed.{ltZ, shrZ}
 use borrow.Author.Needs.{needs}
-use mir.Syntax.{w64}
-use mir.Val.{SFits}
 use mir.Facts.{toZ-ofZ}
 use Rattle.general.proofs.NumberLaws.{one-shl, power-le}
 use Rattle.quantize.specs.Quantize.{nearest}

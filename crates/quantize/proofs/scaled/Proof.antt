@@ -1,5 +1,4 @@
 -- `quantize::scaled` meets its contract: difference and product stay within 64 bits. Assumes nothing.
-use mathlib.Core.Path.{_≡_, sym, subst}
 use mir.Facts.{sfits-widen}
 use Rattle.general.proofs.Casts.{cast-fits}
 use Rattle.quantize.proofs.ScaleLaws.{diff-fits, product-fits, product-value, product-small}

@@ -1,7 +1,7 @@
 -- `parlour_calls::components::converted_at` meets its contract: a byte is looked up, two bytes are converted. Assumes nothing.
-use Prim.Native.Nat.{ℕ, _<_}
+use Prim.Native.Nat.{_<_}
 use native.Mathlib.Omega.{arith}
-use mathlib.Core.Path.{_≡_, sym, ap, _∙_}
+use mathlib.Core.Path.{sym, ap, _∙_}
 use lib.ListN.{getD}
 use lib.IntN.{ℤ}
 use borrow.Author.Needs.{needs, sfits-of}

@@ -2,13 +2,10 @@
 use Prim.Native.Nat.{ℕ, _-_, _≤_, _<_}
 use native.Mathlib.Omega.{arith}
 use mathlib.Core.Path.{_≡_, ap, _∙_}
-use mathlib.Core.Bool.{Bool, false}
 use lib.ListN.{length, length-set}
 use lib.IntN.{ℤ, pos}
-use borrow.Author.Needs.{needs}
 use mir.Syntax.{w32}
 use mir.Facts.{toZ-pos}
-use Rattle.quantize.specs.declared.Converted.{Converted}
 use Rattle.quantize.specs.Quantize.{conversion}
 use Rattle.parlour_calls.specs.Steps.{levelAt}
 use Rattle.parlour_calls.proofs.ComponentLaws.{levels-more}

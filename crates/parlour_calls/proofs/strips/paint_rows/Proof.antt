@@ -1,6 +1,6 @@
 -- `parlour_calls::strips::paint_rows` meets its contract. The loop's invariant: the first y rows of the box are painted, and the components of them that were
 -- held are counted. Assumes nothing.
-use Prim.Native.Nat.{ℕ, _-_, _*_, _≤_}
+use Prim.Native.Nat.{ℕ, _-_, _≤_}
 use native.Mathlib.Omega.{arith}
 use native.Mathlib.Nat.{mul-le-mul}
 use mathlib.Core.Path.{_≡_, refl, sym, ap, subst⁻¹, _∙_}
