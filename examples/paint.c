@@ -1,5 +1,5 @@
-/* From camera to stall: a picture of 2x2 pixels, T_A8B8G8R8, painted into a pupil's stall in one call, then once more, brighter. Each time it prints
- * how many components were held to the range, and the stall's bytes; then what is refused.
+/* From camera to stall: four numbers converted; then a picture of 2x2 pixels, T_A8B8G8R8, painted into a pupil's stall in one call, and once more,
+ * brighter. Each time it prints how many components were held to the range, and the stall's bytes; then what is refused.
  *
  *   cc -std=c11 -Wall -Wextra -pedantic -Iinclude examples/paint.c target/staticlib/libolsketina.a -o paint
  *   ./paint | cmp - examples/paint.stdout
@@ -17,6 +17,18 @@ static int told(const char *call, uint32_t refusal)
 {
     printf("%s: %" PRIu32 " (%s)\n", call, refusal, olsketina_sentence(refusal));
     return refusal == OLSKETINA_ACCEPTED;
+}
+
+/* Converts d - offset over 2^shift to int8 and prints it, and whether it was held. */
+static int converted(int32_t d, int16_t offset, uint32_t shift)
+{
+    int16_t value = 0;
+    uint32_t held = 0;
+    size_t fault = 0;
+    int good = olsketina_quantize_convert(d, offset, 1, shift, OLSKETINA_INT8, &value, &held, &fault) == OLSKETINA_ACCEPTED;
+
+    printf("%" PRId32 " less %d over %u: %d%s\n", d, offset, 1u << shift, value, held ? ", held" : "");
+    return good;
 }
 
 /* Prints how many components were held; then the elements of each pixel of the stall, and the byte behind them. */
@@ -56,6 +68,12 @@ int main(void)
     uint64_t held = 0;
     size_t fault = 0;
     int good = 1;
+
+    /* To the nearest: a half goes away from zero. 255 over 2 is 128 and is held to 127; 254 over 2 is 127 and is not. */
+    good &= converted(130, 128, 2);
+    good &= converted(126, 128, 2);
+    good &= converted(255, 0, 1);
+    good &= converted(254, 0, 1);
 
     memset(buffer, 0xee, sizeof buffer); /* what painting does not write stays and shows */
     olsketina_regions_empty(layout, table);

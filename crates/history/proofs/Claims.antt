@@ -1,4 +1,4 @@
--- The claims about every list of calls (scope paper, "The plain picture"; demand 3; change requests K1, K3). `program` folds the steps that `begin`, `place`,
+-- The claims about every list of calls (scope paper, "The plain picture"; demand 3; change requests K1, K3, K5). `program` folds the steps that `begin`, `place`,
 -- `edit`, `read`, `release` and `paint` of `history_calls` promise, and these do nothing but call `pack`, `empty`, `place`, `edit`, `read`, `release` and `paint`;
 -- `model` has no buffer and no table of the program.
 -- Premises: packing was accepted; lent elements are 16-bit numbers, as in every slice of i16. Lent pixels are bytes, as in every slice of u8, but nothing is
@@ -34,8 +34,8 @@ use Rattle.history.proofs.Released as released
 
 module _ (q : CubeLayout) (raw : List ℤ) (before : List ℕ) (accepted : packAnswer q raw (length before) ≡ Accepted) where
   module _ (sixteen : SixteenBit raw) (calls : List Call) (lent : LendsSixteenBit calls) where
-    -- after every call of every list: the reply, the caller's elements and the buffer are the model's, its raw tensor packed over the bytes from before
-    -- the packing
+    -- after every call of every list: the reply (of an accepted painting also how many components were held), the caller's elements and the buffer are the
+    -- model's, its raw tensor packed over the bytes from before the packing
     pub every-list : program (beginning q raw before .state) calls ≡ map (shown q before) (model q (length before) (given raw) calls)
     every-list = simulation.every-list q raw before accepted sixteen calls lent
 

@@ -48,6 +48,7 @@ pub record PlainStep : Type 0 where
   pub elements : List ℤ
   pub state : Plain
 
+-- the model's step from its parts
 abbrev pub plainStepWith : Reply → List ℤ → List ℤ → List Slot → PlainStep
 plainStepWith reply elements raw slots = record { reply = reply; elements = elements; state = record { raw = raw; slots = slots } }
 

@@ -76,6 +76,7 @@ pub record Step : Type 0 where
   pub elements : List ℤ
   pub state : State
 
+-- a step from its parts
 abbrev pub stepWith : Reply → List ℤ → RegionTable → List ℕ → Step
 stepWith reply elements table buffer = record { reply = reply; elements = elements; state = stateOf table buffer }
 

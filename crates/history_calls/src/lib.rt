@@ -1,5 +1,6 @@
 // The beginning of a list of calls, and one call of it: the calls of `cube`, `regions` and `parlour` themselves, whose promises are here the fold's steps
-// (history/specs/Program.antt). So the theorem about lists (history/proofs/Claims.antt) is about these calls (scope paper, "The plain picture"; change requests K1, K3, K5).
+// (history/specs/Program.antt). So the theorem about lists (history/proofs/Claims.antt) is about these calls (scope paper, "The plain picture"; change
+// requests K1, K3, K5).
 ghost use mathlib.Core.Path.{_≡_};
 ghost use mathlib.Core.List.{[]};
 ghost use Rattle.history.specs.Program.{stateOf, stepOf, stepWith, heldReply, beginning, step, Call};
@@ -72,7 +73,7 @@ pub fn release(table: RegionTable, slot: u32, id: u32, buffer: &mut [u8]) -> Out
     regions_calls::release(table, slot, id, buffer)
 }
 
-// Paints a region from a camera's picture.
+// Paints a region from a camera's picture; tells how many components were held.
 pub fn paint(
     table: RegionTable,
     slot: u32,

@@ -6,9 +6,8 @@
 --     beyond-low, beyond-high                        beyond a limit or not, by the tests
 --     within-same, beyond-other                      a number that is not beyond stays, one that is does not
 use native.Mathlib.Omega.{arith}
-use mathlib.Core.Path.{_≡_, refl, sym, ap, subst, subst⁻¹, _∙_}
-use mathlib.Core.Bool.{Bool, true, false, _||_}
-use lib.Dec.{T}
+use mathlib.Core.Path.{_≡_, refl, sym, ap, subst⁻¹, _∙_}
+use mathlib.Core.Bool.{Bool, true, false, _||_, true≢false}
 use lib.IntN.{ℤ}
 use lib.Signed.{ltZ, _≤ℤ_}
 use mir.Syntax.{Width}
@@ -17,15 +16,9 @@ use Rattle.general.proofs.UpDown.{up, dn, ltZ-true, ltZ-false, le-ltZ, le-ud, u
 use Rattle.general.proofs.Ranges.{fits-between}
 use Rattle.integers.specs.Saturate.{saturate, beyond}
 
-true-false : true ≡ false → ⊥
-true-false e = subst (λ (t : Bool). T t) e tt
-
 -- no number is less than itself
 before-itself : {a z : ℤ} → a ≡ z → ltZ z a ≡ true → ⊥
 before-itself {a} {z} e t = omega (arith, ltZ-true z a t, ap up e, ap dn e)
-
-behind-itself : {a z : ℤ} → a ≡ z → ltZ a z ≡ true → ⊥
-behind-itself {a} {z} e t = omega (arith, ltZ-true a z t, ap up e, ap dn e)
 
 module _ (low high z : ℤ) where
   pub saturate-low : ltZ z low ≡ true → saturate low high z ≡ low
@@ -66,13 +59,13 @@ module _ (low high z : ℤ) where
   -- by the two tests
   same-by : (below above : Bool) → ltZ z low ≡ below → ltZ high z ≡ above → below || above ≡ false → saturate low high z ≡ z
   same-by false false e f none = saturate-same e f
-  same-by false true e f none = absurd (true-false none)
-  same-by true above e f none = absurd (true-false none)
+  same-by false true e f none = absurd (true≢false none)
+  same-by true above e f none = absurd (true≢false none)
 
   other-by : (below above : Bool) → ltZ z low ≡ below → ltZ high z ≡ above → below || above ≡ true → saturate low high z ≡ z → ⊥
   other-by true above e f some same = before-itself (sym (saturate-low e) ∙ same) e
-  other-by false true e f some same = behind-itself (sym (saturate-high e f) ∙ same) f
-  other-by false false e f some same = true-false (sym some)
+  other-by false true e f some same = before-itself (sym same ∙ saturate-high e f) f
+  other-by false false e f some same = true≢false (sym some)
 
   pub within-same : beyond low high z ≡ false → saturate low high z ≡ z
   unfolding beyond

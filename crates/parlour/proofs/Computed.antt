@@ -1,4 +1,5 @@
--- Pictures painted and their held components counted, computed (change requests K3, K5); of two faults at once the earlier in the order is told ("Refusal numbers": "Orders"). Assumes nothing.
+-- Pictures painted and their held components counted, computed (change requests K3, K5); of two faults at once the earlier in the order is told ("Refusal
+-- numbers": "Orders"). Assumes nothing.
 use Prim.Native.Nat.{ℕ}
 use mathlib.Core.Path.{_≡_, refl}
 use mathlib.Core.List.{List, [], _∷_, _++_, map}

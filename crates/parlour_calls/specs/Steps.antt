@@ -50,7 +50,7 @@ runHeld code k precision pixels at step count = total (λ (i : ℕ). heldOne k p
 unfoldable pub stripHeld : (code size channels : ℕ) → Conversion → (precision : ℕ) → List ℕ → (at count : ℕ) → ℕ
 stripHeld code size channels k precision pixels at count = total (λ (n : ℕ). runHeld code k precision pixels (at + n * size) (channels * size) count) channels
 
--- how many of those of `count` pixels from pixel (x, y) on
+-- how many components of `count` pixels from pixel (x, y) on are held
 unfoldable pub pixelsHeld : PixelSetting → List ℕ → Conversion → (precision x y count : ℕ) → ℕ
 pixelsHeld image pixels k precision x y count = total (λ (i : ℕ). pixelHeld image pixels k precision (x + i) y) count
 

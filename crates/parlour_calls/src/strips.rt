@@ -1,5 +1,5 @@
-// Painting a box of the cube: row by row, each in strips of at most 256 pixels, which are converted into a tile and written by the loop that writes boxes; each part tells
-// how many components were held at a limit.
+// Painting a box of the cube: row by row, each in strips of at most 256 pixels, which are converted into a tile and written by the loop that writes
+// boxes; each part tells how many components were held at a limit.
 ghost use mathlib.Core.Path.{_≡_};
 ghost use Prim.Native.Nat.{_+_, _≤_, _<_};
 ghost use lib.ListN.{length};
@@ -25,7 +25,7 @@ fn pixel_at(image: PixelSetting, x: u32, y: u32) -> u64
     }
 }
 
-// `count` pixels from pixel (x, y) on.
+// `count` pixels from pixel (x, y) on. Returned: how many components were held.
 fn paint_strip(
     layout: CubeLayout,
     b: ElementBox,
@@ -74,7 +74,7 @@ fn paint_strip(
     held
 }
 
-// One row of the picture.
+// One row of the picture. Returned: how many components were held.
 fn paint_row(
     layout: CubeLayout,
     b: ElementBox,
@@ -116,7 +116,7 @@ fn paint_row(
     held
 }
 
-// Every row of the picture.
+// Every row of the picture. Returned: how many components were held.
 pub(crate) fn paint_rows(
     layout: CubeLayout,
     b: ElementBox,

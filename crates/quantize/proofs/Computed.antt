@@ -35,12 +35,13 @@ pub record Computed : Type 0 where
   pub half-above : quarter (pos 130) ≡ kept (pos 1)
   pub half-below : quarter (pos 126) ≡ kept (negsuc 0)
   pub beside : map quantizedValue (quarter (pos 125) ∷ quarter (pos 127) ∷ quarter (pos 129) ∷ quarter (pos 131) ∷ []) ≡ negsuc 0 ∷ pos 0 ∷ pos 0 ∷ pos 1 ∷ []
-  -- every half, the halves of 2 and −2 among them; with shift 0 there are none
+  -- 1.5, 2, 2.5 and −1.5, −2, −2.5; with shift 0 every number is whole
   pub halves : map (λ (d : ℤ). quantizedValue (over d 1 0)) (pos 3 ∷ pos 4 ∷ pos 5 ∷ negsuc 2 ∷ negsuc 3 ∷ negsuc 4 ∷ []) ≡ pos 2 ∷ pos 2 ∷ pos 3 ∷ negsuc 1 ∷ negsuc 1 ∷ negsuc 2 ∷ []
   pub whole : map (λ (d : ℤ). quantizedValue (over d 0 0)) (pos 3 ∷ negsuc 2 ∷ []) ≡ pos 3 ∷ negsuc 2 ∷ []
-  -- 255 to int8: 127; saturated after the shift and not before
+  -- 255 to int8: 127, held
   pub saturated : over (pos 255) 0 0 ≡ held (pos 127)
-  -- held is judged on the rounded number: 255 over 2 is 128 and held; 254 over 2 is 127 and is not; below zero 257 is, 256 is not
+  -- held is judged on the rounded number: 255 over 2 is 128 and held; 254 over 2 is 127 and is not; below zero 257 is, 256 is not (saturated
+  -- before the division, 254 over 2 would be 64)
   pub rounds-beyond : over (pos 255) 1 0 ≡ held (pos 127)
   pub on-limit : over (pos 254) 1 0 ≡ kept (pos 127)
   pub below-limit : over (negsuc 256) 1 0 ≡ held (negsuc 127)
@@ -48,6 +49,7 @@ pub record Computed : Type 0 where
   -- 509 over 4 lies above 127 and rounds to it: not held; 510 over 4 is 127.5 and is
   pub rounds-onto : over (pos 509) 2 0 ≡ kept (pos 127)
   pub rounds-past : over (pos 510) 2 0 ≡ held (pos 127)
+  -- int16 has its own limits
   pub wide : over (pos 40000) 0 1 ≡ held (pos 32767)
   pub low : over (negsuc 40000) 0 1 ≡ held (negsuc 32767)
   -- 2 before 16

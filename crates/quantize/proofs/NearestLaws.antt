@@ -1,11 +1,11 @@
 -- Rounding to the nearest as the code does it: half of m is added and the shift rounds down; below zero one less than the other half. Both ways by the same
 -- two bounds of the nearest number. Assumes nothing.
 --     nearest-le, lt-nearest           t * m ≤ n + m / 2 < (t + 1) * m, of a magnitude n and its nearest t
---     nearest-above, nearest-below     the sum shifted down, from zero on and below it
+--     shifted-above, shifted-below     the sum shifted down, from zero on and below it
 --     natural-fits, sum-fits           what is added, and the sum, within 64 bits
 --     shifted-sum                      the sum as the code has it, shifted down
 --     nearest-size, size-le, lt-size   its magnitude, and the bounds
---     nearest-turned                   the nearest number of -z
+--     nearest-natural, nearest-turned  the nearest number from zero on, and that of -z
 use Prim.Native.Nat.{ℕ, zero, suc, _+_, _-_, _*_, _/_, _%_, _^_, _≤_, _<_}
 use native.Mathlib.Nat.{add-mul, one-mul, zero-mul, div-add-mod', mod-lt, lt-of-mul-lt-mul-right}
 use native.Mathlib.Decide.{decLt}
@@ -13,7 +13,7 @@ use native.Mathlib.Omega.{arith}
 use mathlib.Core.Path.{_≡_, refl, sym, ap}
 use mathlib.Core.Bool.{true, false}
 use lib.Dec.{lit<}
-use lib.IntN.{ℤ, pos, negsuc, natAbs, negℤ, _+ℤ_}
+use lib.IntN.{ℤ, pos, negsuc, natAbs, negℤ, negℤ-negℤ, _+ℤ_}
 use lib.Signed.{ltZ, shrZ}
 use borrow.Author.Tests.{lt-leb, le-leb}
 use mir.Syntax.{w64}
@@ -55,13 +55,13 @@ module _ {m : ℕ} (hm : 0 < m) where
       (omega (arith, sum, none, all, zero-mul m, lt-nearest (suc n)))
       (omega (arith, sum, none, all, zero-mul m, nearest-le (suc n)))
 
-  pub nearest-above : (z : ℤ) → ltZ z (pos 0) ≡ false → shrZ (z +ℤ pos (m / 2)) m ≡ nearest z m
-  nearest-above (pos n) e = up-from-zero n
-  nearest-above (negsuc n) e = absurd (omega (arith, ltZ-false (negsuc n) (pos 0) e))
+  pub shifted-above : (z : ℤ) → ltZ z (pos 0) ≡ false → shrZ (z +ℤ pos (m / 2)) m ≡ nearest z m
+  shifted-above (pos n) e = up-from-zero n
+  shifted-above (negsuc n) e = absurd (omega (arith, ltZ-false (negsuc n) (pos 0) e))
 
-  pub nearest-below : (z : ℤ) → ltZ z (pos 0) ≡ true → shrZ (z +ℤ pos (m - m / 2 - 1)) m ≡ nearest z m
-  nearest-below (pos n) e = absurd (omega (arith, ltZ-true (pos n) (pos 0) e))
-  nearest-below (negsuc n) e = down-from-zero n
+  pub shifted-below : (z : ℤ) → ltZ z (pos 0) ≡ true → shrZ (z +ℤ pos (m - m / 2 - 1)) m ≡ nearest z m
+  shifted-below (pos n) e = absurd (omega (arith, ltZ-true (pos n) (pos 0) e))
+  shifted-below (negsuc n) e = down-from-zero n
 
 -- ---- the sum within 64 bits
 
@@ -85,9 +85,9 @@ abs-neg : (n : ℕ) → natAbs (negℤ (pos n)) ≡ n
 abs-neg zero = refl
 abs-neg (suc n) = refl
 
-neg-neg : (n : ℕ) → negℤ (negℤ (pos n)) ≡ pos n
-neg-neg zero = refl
-neg-neg (suc n) = refl
+pub nearest-natural : (n m : ℕ) → nearest (pos n) m ≡ pos (natAbs (nearest (pos n) m))
+unfolding nearest
+nearest-natural n m = refl
 
 nearest-size : (z : ℤ) (m : ℕ) → natAbs (nearest z m) ≡ nearestOf (natAbs z) m
 unfolding nearest
@@ -109,4 +109,4 @@ pub nearest-turned : (z : ℤ) (m : ℕ) → 0 < m → nearest (negℤ z) m ≡ 
 unfolding nearest
 nearest-turned (pos zero) m hm = rw (nearest-zero m hm)
 nearest-turned (pos (suc n)) m hm = refl
-nearest-turned (negsuc n) m hm = sym (neg-neg (nearestOf (suc n) m))
+nearest-turned (negsuc n) m hm = sym (negℤ-negℤ (pos (nearestOf (suc n) m)))

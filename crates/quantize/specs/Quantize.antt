@@ -48,11 +48,11 @@ quantized d offset scale shift precision = saturate (lowest precision) (highest 
 unfoldable pub limited : ℤ → ℤ → ℤ → ℕ → ℕ → Bool
 limited d offset scale shift precision = beyond (lowest precision) (highest precision) (rounded d offset scale shift)
 
--- both
+-- a number converted: its value, and whether it was held
 abbrev pub conversion : ℤ → ℤ → ℤ → ℕ → ℕ → Converted
 conversion d offset scale shift precision = record { value = quantized d offset scale shift precision; held = limited d offset scale shift precision }
 
--- they where the call is accepted, else its refusal
+-- the converted number where the call is accepted, else its refusal
 unfoldable pub quantizeAnswer : ℤ → ℤ → ℤ → ℕ → ℕ → Quantized
 quantizeAnswer d offset scale shift precision = result Value NotGiven (inOrder (quantizeChecks precision shift)) (conversion d offset scale shift precision)
 
@@ -66,7 +66,7 @@ abbrev pub quantizedValue : Quantized → ℤ
 quantizedValue (Value c) = c .value
 quantizedValue (NotGiven r at) = pos 0
 
--- whether it was held, not where there is none
+-- whether it was held; false where there is none
 abbrev pub quantizedHeld : Quantized → Bool
 quantizedHeld (Value c) = c .held
 quantizedHeld (NotGiven r at) = false

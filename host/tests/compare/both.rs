@@ -10,7 +10,8 @@ const MARGIN: usize = 37;
 const FILL: u8 = 0xa5;
 
 /// Makes a call on both sides with the same arguments. After `;` stand what is lent for reading and what is lent for writing, both last in the
-/// call; each side writes to its own copy. Gives the accepted value, and then also what was left.
+/// call; each side writes to its own copy. Gives the accepted value, if there is one; where something is lent,
+/// also what was left.
 macro_rules! compare {
     ($both:expr, $call:literal, $library:path, $reference:path, $($argument:expr),+) => {
         $both.same($call, $library($($argument),+), $reference($($argument),+), format_args!("{:?}", ($($argument,)+)))

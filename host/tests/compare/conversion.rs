@@ -45,8 +45,8 @@ fn around_the_ranges() {
     both.expect("a half: 0 1 2; held: 0 1; quantize_convert: 0");
 }
 
-/// What nearest means, of small numbers: no whole number is nearer, and of two that are as near it is the one away from zero. Held is what is not
-/// its own value.
+/// What nearest means, of small numbers: no whole number is nearer, and of two that are as near it is the one away from zero. To
+/// int8 it is held exactly where the rounded value lies outside int8.
 #[test]
 fn nearest() {
     each!(d in -800..=800_i32, scale in [1, -1, 2, 3, -3, 7], shift in 0..=5 => {

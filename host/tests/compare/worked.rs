@@ -130,7 +130,7 @@ fn picture() {
     assert_eq!(desk.paint(2, 7, image, middle, &pixels, &mut buffer[..383]), refused(5));
     assert_eq!(buffer, expected);
 
-    // Half as much again: 1 is 2, 127 and more are past 127; of the first pixel two are held, of the second all four.
+    // Half as much again: 1 is 2, from 85 on all are past 127; of the first pixel two are held, of the second all four.
     let brighter = Conversion { offset: 0, scale: 3, shift: 1 };
     assert_eq!(desk.paint(2, 7, image, brighter, &pixels, &mut buffer), Ok(6));
     expected[160..164].copy_from_slice(&[0, 2, 127, 127]);

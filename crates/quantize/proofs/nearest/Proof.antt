@@ -10,7 +10,7 @@ use borrow.Author.Needs.{needs}
 use mir.Facts.{toZ-ofZ}
 use Rattle.general.proofs.NumberLaws.{one-shl, power-le}
 use Rattle.quantize.specs.Quantize.{nearest}
-use Rattle.quantize.proofs.NearestLaws.{nearest-above, nearest-below, sum-fits, natural-fits, shifted-sum}
+use Rattle.quantize.proofs.NearestLaws.{shifted-above, shifted-below, sum-fits, natural-fits, shifted-sum}
 use Rattle.quantize.proofs.nearest.Statement.{statement}
 use Rattle.quantize.proofs.nearest.Tie as tie
 
@@ -34,8 +34,8 @@ sum-nearest c = let s = c .before in
     let same = ap (λ (v : ℤ). ltZ v (pos 0)) (sym (toZ-ofZ (s .fits .z))) in
     let shifted : ℕ → ℤ = λ n. shrZ (z +ℤ pos n) m in
     ⊎-elim
-    (λ w. ap shifted (omega (arith, w .1, whole-is s)) ∙ nearest-below (pow-pos (s .args .shift)) z (same ∙ w .0 .taken))
-    (λ w. ap shifted (omega (arith, w .1, whole-is s)) ∙ nearest-above (pow-pos (s .args .shift)) z (same ∙ w .0 .left))
+    (λ w. ap shifted (omega (arith, w .1, whole-is s)) ∙ shifted-below (pow-pos (s .args .shift)) z (same ∙ w .0 .taken))
+    (λ w. ap shifted (omega (arith, w .1, whole-is s)) ∙ shifted-above (pow-pos (s .args .shift)) z (same ∙ w .0 .left))
     (c .if1 .came)
 
 shl-whole : tie.Need-shl-whole

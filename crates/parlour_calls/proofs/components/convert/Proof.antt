@@ -1,4 +1,4 @@
--- `parlour_calls::components::convert` meets its contract: an accepted conversion gives its value. Assumes nothing.
+-- `parlour_calls::components::convert` meets its contract: an accepted conversion gives the converted number. Assumes nothing.
 use mathlib.Core.Path.{_≡_, sym, _∙_}
 use borrow.Author.Needs.{needs}
 use mir.Facts.{toZ-ofZ}
