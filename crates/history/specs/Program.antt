@@ -6,9 +6,8 @@ use lib.ListN.{length}
 use lib.IntN.{ℤ}
 pub use Rattle.elements.specs.Values.{SixteenBit}
 use Rattle.refusal.specs.declared.Answer.{Answer}
-use Rattle.refusal.specs.declared.Answer.the-variants.{Accepted, Refused}
 use Rattle.refusal.specs.declared.Quantity.{Quantity}
-use Rattle.refusal.specs.declared.Quantity.the-variants.{Is, Refused as NotGiven}
+use Rattle.refusal.specs.Codes.{quantityAnswer, quantityValue}
 use Rattle.refusal.specs.Checks.{leaves}
 use Rattle.layout.specs.declared.CubeLayout.{CubeLayout}
 use Rattle.layout.specs.declared.ElementBox.{ElementBox}
@@ -59,8 +58,7 @@ replyOf answer value = record { answer = answer; value = leaves answer value non
 
 -- that of a painting, as its call gives it
 abbrev pub heldReply : Quantity → Reply
-heldReply (Is n) = record { answer = Accepted; value = held n }
-heldReply (NotGiven r at) = record { answer = Refused r at; value = none }
+heldReply quantity = replyOf (quantityAnswer quantity) (held (quantityValue quantity))
 
 -- what the program keeps between calls
 pub record State : Type 0 where

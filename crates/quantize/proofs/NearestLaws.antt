@@ -95,10 +95,10 @@ nearest-size (pos n) m = refl
 nearest-size (negsuc n) m = abs-neg (nearestOf (suc n) m)
 
 module _ {m : ℕ} (hm : 0 < m) (z : ℤ) where
-  pub size-le : natAbs (nearest z m) * m ≤ natAbs z + m / 2
+  pub size-le : 2 * (natAbs (nearest z m) * m) ≤ 2 * natAbs z + m
   size-le = omega (arith, ap (λ (k : ℕ). k * m) (nearest-size z m), nearest-le hm (natAbs z))
 
-  pub lt-size : natAbs z + m / 2 < natAbs (nearest z m) * m + m
+  pub lt-size : 2 * natAbs z < 2 * (natAbs (nearest z m) * m) + m
   lt-size = omega (arith, ap (λ (k : ℕ). k * m) (nearest-size z m), lt-nearest hm (natAbs z))
 
 -- 0 over m is 0
