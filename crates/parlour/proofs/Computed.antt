@@ -112,6 +112,9 @@ pub record Computed : Type 0 where
   -- is -128 and 127 at most, on the limits, and nothing is held
   pub counted : holding 7 pixels doubled 192 ≡ Is 7
   pub on-limits : holding 7 pixels centred 192 ≡ Is 0
+  pub doubled-bytes : paintBuffer table 0 7 camera pixels doubled (replicate 192 7)
+      ≡ replicate 32 7 ++ 0 ∷ 2 ∷ 4 ∷ 6 ∷ replicate 28 7 ++ 128 ∷ 127 ∷ 254 ∷ 128 ∷ replicate 28 7
+      ++ replicate 32 7 ++ 240 ∷ 220 ∷ 200 ∷ 180 ∷ replicate 28 7 ++ 127 ∷ 128 ∷ 128 ∷ 127 ∷ replicate 28 7
   -- a refused painting has no count: another owner, a pixel byte too few, a byte of the frame too few
   pub uncounted : holding 8 pixels doubled 192 ∷ holding 7 (take 43 pixels) doubled 192 ∷ holding 7 pixels doubled 191 ∷ [] ≡ NotGiven OwnerId 0 ∷ NotGiven PixelLength 0 ∷ NotGiven BufferLength 0 ∷ []
   -- 300 is beyond int8 and not beyond int16: the frame's precision counts, not the picture's
@@ -162,6 +165,7 @@ computed =
       ten = refl;
       counted = refl;
       on-limits = refl;
+      doubled-bytes = refl;
       uncounted = refl;
       by-precision = refl;
       end = refl;
