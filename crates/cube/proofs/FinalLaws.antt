@@ -19,11 +19,11 @@ use Rattle.layout.specs.Geometry.{sizeOf, surfaces}
 use Rattle.layout.specs.Owners.{padding, owner}
 use Rattle.layout.specs.Boxes.{wholeBox}
 use Rattle.layout.specs.Contents.{packed, edited, zerosOf, boxElements, unpacked}
-use Rattle.layout.specs.Calls.{packBuffer, unpackElements, writeBoxAnswer, writeBoxBuffer, clearBoxAnswer, clearBoxBuffer, readBoxAnswer, readBoxElements}
+use Rattle.layout.specs.Calls.{packAnswer, packBuffer, unpackElements, writeBoxAnswer, writeBoxBuffer, clearBoxAnswer, clearBoxBuffer, readBoxAnswer, readBoxElements}
 use Rattle.layout.proofs.ContentLaws.{packed-by-edit}
 use Rattle.layout.proofs.Valid.{Valid}
 use Rattle.layout.proofs.Formulas.{padding-exactly}
-use Rattle.layout.proofs.CallLaws.{Admitted, admitted, admit-clear, write-admitted, pack-whole, unpack-whole}
+use Rattle.layout.proofs.CallLaws.{Admitted, admitted, pack-admitted, admit-clear, write-admitted, unpack-whole}
 use Rattle.cube.specs.Steps.{runIndex, gathered, boxWritten}
 use Rattle.cube.proofs.RunLaws.{box-enough}
 use Rattle.cube.proofs.GatherLaws.{gathered-raw}
@@ -78,19 +78,19 @@ module _ (q : CubeLayout) (raw : List ℤ) (before : List ℕ) where
   unfolding surfaces
   no-padding ok e p o = let x = padding-exactly q ok p .0 o in omega (arith, x .atom .surface-lt, x .atom .byte-lt, x .past)
 
-  pub packed-whole : {after : List ℕ} (pad : Bool) → writeBoxAnswer q (wholeBox q) raw (length before) ≡ Accepted → (pad ≡ false → q .channels * sizeOf q % 32 ≡ 0)
+  pub packed-whole : {after : List ℕ} (pad : Bool) → packAnswer q raw (length before) ≡ Accepted → (pad ≡ false → q .channels * sizeOf q % 32 ≡ 0)
       → after ≡ boxWritten q (wholeBox q) pad raw before → after ≡ packBuffer q raw before
   unfolding packBuffer boxWritten
-  packed-whole true a f e = e ∙ sym (leaves-done (packed q raw before) before (pack-whole q raw (length before) ∙ a))
+  packed-whole true a f e = e ∙ sym (leaves-done (packed q raw before) before a)
   packed-whole false a f e =
-      let ok = write-valid q (wholeBox q) raw before a .layout in
+      let ok = pack-admitted q raw (length before) a .layout in
       e
       ∙ packed-by-edit q ok raw before before refl (λ p o. refl) (λ p h o. absurd (no-padding ok (f refl) p o))
-      ∙ sym (leaves-done (packed q raw before) before (pack-whole q raw (length before) ∙ a))
+      ∙ sym (leaves-done (packed q raw before) before a)
 
-  pub pack-kept : {r : Refusal} {i : ℕ} → writeBoxAnswer q (wholeBox q) raw (length before) ≡ Refused r i → before ≡ packBuffer q raw before
+  pub pack-kept : {r : Refusal} {i : ℕ} → packAnswer q raw (length before) ≡ Refused r i → before ≡ packBuffer q raw before
   unfolding packBuffer
-  pack-kept a = sym (leaves-before (packed q raw before) before (pack-whole q raw (length before) ∙ a))
+  pack-kept a = sym (leaves-before (packed q raw before) before a)
 
 -- ---- unpacking
 module _ (q : CubeLayout) (buf : List ℕ) (before : List ℤ) where

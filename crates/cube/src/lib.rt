@@ -37,16 +37,23 @@ fn judge(layout: CubeLayout, b: ElementBox, elements: &[i16], len: usize) -> Ans
     elements::check_values(layout.precision, elements)
 }
 
+// All checks of packing into a buffer of `len` bytes: 1 to 4, 6, 5, 7.
+pub fn check_pack(layout: CubeLayout, elements: &[i16], len: usize) -> Answer
+    ensures { λ r. ⌜ r ≡ packAnswer layout (now (elements .entry)) len ⌝ }
+{
+    judge(layout, whole(layout), elements, len)
+}
+
 // Packs a raw tensor into a buffer: every atom is written whole, its padding as 0; every other byte stays.
 pub fn pack(layout: CubeLayout, elements: &[i16], buffer: &mut [u8]) -> Answer
     ensures answered { λ r. ⌜ r ≡ packAnswer layout (now (elements .entry)) (length (now (buffer .entry))) ⌝ }
     ensures left { λ r. ⌜ now (buffer .exit) ≡ packBuffer layout (now (elements .entry)) (now (buffer .entry)) ⌝ }
 {
-    let cube = whole(layout);
-    let a = judge(layout, cube, elements, buffer.len());
+    let a = check_pack(layout, elements, buffer.len());
     let Answer::Accepted = a else {
         return a;
     };
+    let cube = whole(layout);
     let pad = layout.channels * elements::element_bytes(layout.precision) % 32 != 0;
     let line = layout.width;
     let plane = layout.height * line;

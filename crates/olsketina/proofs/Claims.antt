@@ -10,6 +10,7 @@ use Rattle.refusal.specs.declared.Answer.the-variants.{Accepted}
 use Rattle.regions.specs.declared.RegionTable.{RegionTable}
 use Rattle.regions.specs.declared.Rectangle.{Rectangle}
 use Rattle.regions.specs.Calls.{placeTable, releaseAnswer, releaseTable}
+use Rattle.walk.specs.declared.Walk.{Walk}
 use Rattle.lut.specs.declared.Counters.{Counters}
 use Rattle.lut.specs.declared.LutSettings.{LutSettings}
 use Rattle.camera.specs.declared.Choice.{Choice}
@@ -25,6 +26,7 @@ use Rattle.script.specs.Feed.{fed, finished}
 use Rattle.olsketina.specs.Sizes.{layoutSize, slotSize, slotCount, tableSize, frameWord, stateSize}
 use Rattle.olsketina.specs.Words.{word}
 use Rattle.olsketina.specs.Tables.{tableAt, withTable, placeWords, releaseWords, Outside}
+use Rattle.olsketina.specs.Walks.{walkFrom, walkWords}
 use Rattle.olsketina.specs.Lookups.{countersFrom, counterWords}
 use Rattle.olsketina.specs.Ready.{fedBack}
 use Rattle.olsketina.specs.Sheets.{sheetFrom, withSheet, rowWords, HasRefusal}
@@ -60,6 +62,12 @@ release-alone l n id len p out = slot.release-alone l n id len p out
 pub release-frees : (l : List ℕ) (n id len : ℕ) → length l ≡ tableSize → releaseAnswer (tableAt l 0) n id len ≡ Accepted
     → (j : ℕ) → j < slotSize → word (releaseWords l n id len) (layoutSize + slotSize * n + j) ≡ 0
 release-frees l n id len long ok j h = slot.release-frees l n id len long ok j h
+
+-- ---- walks
+
+-- decoding what was encoded gives the walk back
+pub walk-back : (w : Walk) → walkFrom (walkWords w) ≡ w
+walk-back w = refl
 
 -- ---- lookups
 

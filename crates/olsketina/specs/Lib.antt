@@ -4,5 +4,6 @@ pub mod Words
 pub mod Tables
 pub mod Lookups
 pub mod Ready
+pub mod Walks
 pub mod Sheets
 pub mod Feeding

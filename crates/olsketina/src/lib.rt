@@ -3,6 +3,7 @@ ghost use mathlib.Core.Path.{_≡_};
 ghost use Rattle.olsketina.specs.Sizes.{version};
 
 mod answers;
+pub mod atom_calls;
 pub mod cube_calls;
 pub mod lookup_calls;
 mod lut_words;

@@ -10,7 +10,7 @@ use pixels::PixelSetting;
 use weights::WeightLayout;
 
 // The header's macros of the same names.
-pub(crate) const VERSION: u32 = 6;
+pub(crate) const VERSION: u32 = 7;
 
 pub(crate) const LAYOUT_WORDS: usize = 7;
 
@@ -41,6 +41,10 @@ pub(crate) const STATE_WORDS: usize = STATE_TABLE + TABLE_WORDS;
 pub(crate) const TEXT_BYTES: usize = 120;
 
 pub(crate) const ROW_WORDS: usize = 5;
+
+pub(crate) const WALK_WORDS: usize = 12;
+
+pub(crate) const ATOM_BYTES: usize = 32;
 
 // The layout whose words stand from `at` on.
 pub(crate) fn layout_at(words: &[u32], at: usize) -> CubeLayout

@@ -12,56 +12,49 @@ use lib.ListN.{length}
 use Rattle.refusal.specs.declared.Answer.the-variants.{Accepted}
 use Rattle.layout.specs.declared.ElementBox.{ElementBox}
 use Rattle.layout.specs.Boxes.{wholeBox}
-use Rattle.layout.specs.Calls.{writeBoxAnswer, clearBoxAnswer}
-use Rattle.layout.proofs.CallLaws.{Admitted, pack-whole}
+use Rattle.layout.specs.Calls.{packAnswer, writeBoxAnswer, clearBoxAnswer}
+use Rattle.layout.proofs.CallLaws.{Admitted, pack-admitted, pack-whole}
 use Rattle.cube.specs.Steps.{runFrom, gathered, boxWritten}
 use Rattle.cube.proofs.RunLaws.{plane-le}
-use Rattle.cube.proofs.FinalLaws.{write-valid, write-ready, raw-written, packed-whole, pack-kept}
+use Rattle.cube.proofs.FinalLaws.{write-ready, raw-written, packed-whole, pack-kept}
 use borrow.Author.Needs.{needs}
 use Rattle.cube.proofs.pack.Statement.{statement}
 use Rattle.cube.proofs.pack.Tie as tie
 
-abbrev start : tie.After-judge → tie.Start
-start c = c .before .before .before
+abbrev start : tie.After-enum-told → tie.Start
+start c = c .before .before .before .before
 
-answer : (c : tie.After-judge) → c .judge .result ≡ writeBoxAnswer (start c .args .layout) (wholeBox (start c .args .layout)) (start c .args .elements .now) (length (start c .args .buffer .now))
-answer c =
-    let a = start c .args in
-    c .judge .ensures ∙ ap (λ (b : ElementBox). writeBoxAnswer (a .layout) b (a .elements .now) (length (a .buffer .now))) (c .before .whole .ensures)
+accepted : (c : tie.After-enum-told) → packAnswer (start c .args .layout) (start c .args .elements .now) (length (start c .args .buffer .now)) ≡ Accepted
+accepted c = sym (c .before .before .check-pack .ensures) ∙ c .enum-told .given .1
 
-abbrev judged : tie.After-enum-told → tie.After-judge
-judged c = c .before .before
+valid : (c : tie.After-enum-told) → Admitted (start c .args .layout) (wholeBox (start c .args .layout)) (length (start c .args .elements .now)) (length (start c .args .buffer .now))
+valid c = let a = start c .args in pack-admitted (a .layout) (a .elements .now) (length (a .buffer .now)) (accepted c)
 
-accepted : (c : tie.After-enum-told) → writeBoxAnswer (start (judged c) .args .layout) (wholeBox (start (judged c) .args .layout)) (start (judged c) .args .elements .now) (length (start (judged c) .args .buffer .now)) ≡ Accepted
-accepted c = sym (answer (judged c)) ∙ c .enum-told .given .1
-
-valid : (c : tie.After-enum-told) → Admitted (start (judged c) .args .layout) (wholeBox (start (judged c) .args .layout)) (length (start (judged c) .args .elements .now)) (length (start (judged c) .args .buffer .now))
-valid c = let a = start (judged c) .args in write-valid (a .layout) (wholeBox (a .layout)) (a .elements .now) (a .buffer .now) (accepted c)
+-- packing is writing the whole box
+box-accepted : (c : tie.After-enum-told) → writeBoxAnswer (start c .args .layout) (wholeBox (start c .args .layout)) (start c .args .elements .now) (length (start c .args .buffer .now)) ≡ Accepted
+box-accepted c = let a = start c .args in sym (pack-whole (a .layout) (a .elements .now) (length (a .buffer .now))) ∙ accepted c
 
 -- the bytes of all channels, with the element size as it was returned
-bytes : (c : tie.After-element-bytes) → start (judged (c .before)) .args .layout .channels * c .element-bytes .result ≤ 16384
+bytes : (c : tie.After-element-bytes) → start (c .before .before) .args .layout .channels * c .element-bytes .result ≤ 16384
 bytes c =
-    let q = start (judged (c .before)) .args .layout in
-    mul-le-mul {n₁ = q .channels} {m₁ = c .element-bytes .result} {n₂ = 8192} {m₂ = 2} (valid (c .before) .layout .channels-le) (subst⁻¹ (λ (e : ℕ). e ≤ 2) (c .element-bytes .ensures) (elementBytes-le (q .precision)))
+    let q = start (c .before .before) .args .layout in
+    mul-le-mul {n₁ = q .channels} {m₁ = c .element-bytes .result} {n₂ = 8192} {m₂ = 2} (valid (c .before .before) .layout .channels-le) (subst⁻¹ (λ (e : ℕ). e ≤ 2) (c .element-bytes .ensures) (elementBytes-le (q .precision)))
 
 -- whether the channels leave padding in their last atoms
 abbrev padded : tie.After-element-bytes → Bool
-padded c = not (eqb (start (judged (c .before)) .args .layout .channels * c .element-bytes .result % 32) 0)
+padded c = not (eqb (start (c .before .before) .args .layout .channels * c .element-bytes .result % 32) 0)
 
 filled : (b : Bool) → not b ≡ false → b ≡ true
 filled true e = refl
 filled false e = sym e
 
-full : (c : tie.After-element-bytes) → padded c ≡ false → start (judged (c .before)) .args .layout .channels * sizeOf (start (judged (c .before)) .args .layout) % 32 ≡ 0
+full : (c : tie.After-element-bytes) → padded c ≡ false → start (c .before .before) .args .layout .channels * sizeOf (start (c .before .before) .args .layout) % 32 ≡ 0
 full c e =
-    let q = start (judged (c .before)) .args .layout in
+    let q = start (c .before .before) .args .layout in
     sym (ap (λ (x : ℕ). q .channels * x % 32) (c .element-bytes .ensures)) ∙ eqb-true (q .channels * c .element-bytes .result % 32) 0 (filled _ e)
 
-whole-requires : tie.Need-whole-requires
-whole-requires c κs = search needs
-
-judge-requires : tie.Need-judge-requires
-judge-requires c κs = search needs
+check-pack-requires : tie.Need-check-pack-requires
+check-pack-requires c κs = search needs
 
 enum-told : tie.Need-enum-told
 enum-told c = search needs
@@ -71,8 +64,11 @@ enum-told-2 c = search needs
 
 returns : tie.Need-returns
 returns c = let d = c .before .before in
-    let a = start d .args in
-    (answer d ∙ sym (pack-whole (a .layout) (a .elements .now) (length (a .buffer .now))), pack-kept (a .layout) (a .elements .now) (a .buffer .now) (sym (answer d) ∙ c .enum-told2 .given .1))
+    let a = d .before .before .args in
+    (d .check-pack .ensures, pack-kept (a .layout) (a .elements .now) (a .buffer .now) (sym (d .check-pack .ensures) ∙ c .enum-told2 .given .1))
+
+whole-requires : tie.Need-whole-requires
+whole-requires c κs = search needs
 
 element-bytes-requires : tie.Need-element-bytes-requires
 element-bytes-requires c κs = search needs
@@ -81,18 +77,17 @@ mul-pad : tie.Need-mul-pad
 mul-pad c = omega (arith, bytes (c .before))
 
 mul-plane : tie.Need-mul-plane
-mul-plane c = let e = c .before .before .before in
-    let q = start (judged e) .args .layout in
+mul-plane c = let e = c .before .before .before .before in
+    let q = start e .args .layout in
     let v = valid e in
     omega (arith, plane-le q (wholeBox q) (v .layout) (v .inside))
 
 all-requires : tie.Need-all-requires
-all-requires c κs = let e = c .before .before .before .before in
-    let d = judged e in
-    let a = start d .args in
+all-requires c κs = let e = c .before .before .before .before .before in
+    let a = start e .args in
     let q = a .layout in
-    let w = write-ready q (wholeBox q) (a .elements .now) (a .buffer .now) (accepted e) in
-    let is = d .before .whole .ensures in (
+    let w = write-ready q (wholeBox q) (a .elements .now) (a .buffer .now) (box-accepted e) in
+    let is = c .before .before .before .before .whole .ensures in (
       subst⁻¹ (λ (b : ElementBox). clearBoxAnswer q b (length (a .buffer .now)) ≡ Accepted) is (w .0),
       (λ t. is, subst⁻¹ (λ (b : ElementBox). runFrom (q .height * q .width) (q .width) (b .channels - 1) (b .rows - 1) + b .columns ≤ length (a .elements .now)) is (w .1)),
     )
@@ -103,27 +98,26 @@ same-length c = search needs
 returns-2 : tie.Need-returns-2
 returns-2 c = let f = c .before .before in
     let b = f .before .before .before .before in
-    let e = b .before in
-    let d = judged e in
-    let a = start d .args in
+    let e = b .before .before in
+    let a = start e .args in
     let q = a .layout in
     let xs = a .elements .now in (
-      sym (accepted e) ∙ sym (pack-whole (a .layout) (a .elements .now) (length (a .buffer .now))),
-      packed-whole (a .layout) (a .elements .now) (a .buffer .now) (padded b) (accepted e) (full b)
+      sym (accepted e),
+      packed-whole q xs (a .buffer .now) (padded b) (accepted e) (full b)
           (f .all .ensures
-          ∙ ap (λ (x : ElementBox). boxWritten q x (padded b) (gathered x (q .height * q .width) (q .width) xs) (a .buffer .now)) (d .before .whole .ensures)
-          ∙ raw-written q (wholeBox q) xs (a .buffer .now) (accepted e) (padded b)),
+          ∙ ap (λ (x : ElementBox). boxWritten q x (padded b) (gathered x (q .height * q .width) (q .width) xs) (a .buffer .now)) (b .before .whole .ensures)
+          ∙ raw-written q (wholeBox q) xs (a .buffer .now) (box-accepted e) (padded b)),
     )
 
 pub pack-spec : {M : Type 1} → statement M
 pack-spec =
     tie.close
     (tie.spec
-    whole-requires
-    judge-requires
+    check-pack-requires
     enum-told
     enum-told-2
     returns
+    whole-requires
     element-bytes-requires
     mul-pad
     mul-plane
