@@ -19,6 +19,7 @@ import pixels
 import quantize
 import regions
 import sheet
+import walk
 import weights
 
 HERE = Path(__file__).resolve().parent
@@ -51,11 +52,12 @@ def ranged(pattern, base, low, high):
 
 natural = ranged("[0-9]+", 10, 0, cube.U32_MAX)
 position = ranged("[0-9]+", 10, 0, (1 << 61) - (1 << 31) - 1)
+wide = ranged("-?[0-9]+", 10, S32_MIN, (1 << 61) - (1 << 31) - 1)
 signed = ranged("-?[0-9]+", 10, S32_MIN, 2147483647)
 element = ranged("-?[0-9]+", 10, -32768, 32767)
 byte = ranged("[0-9a-fA-F]{2}", 16, 0, 255)
 
-KINDS = {"n": natural, "p": position, "s": signed, "e": element, "b": byte}
+KINDS = {"n": natural, "p": position, "w": wide, "s": signed, "e": element, "b": byte}
 MEMBERS = {"elements": element, "buffer": byte, "samples": signed}
 
 
@@ -169,6 +171,8 @@ COMMANDS = {
     "lookup": ("nnn", {"counters"}, SETTINGS | {"elements", "samples", "counters"}),
     "sheet": ("", set(), {"buffer"}),
     "whose": ("n" * 7 + "p", set(), set()),
+    "walk": ("n" * 7, {"buffer"}, PACKED),
+    "step": ("w" * 12, set(), {"elements"}),
 }
 
 
@@ -307,6 +311,35 @@ class Board:
         self.check_picture()
         return out
 
+    # --- atoms in scan order ---
+
+    def on_walk(self, given):
+        """`walk`: the atoms written, the answer with their number and the checksum of their positions.
+
+        Asserts that packing has the same answer and leaves the same buffer, and
+        that the steps of the walk give the same atoms.
+        """
+        q, elements, buffer = cube.CubeLayout(*given), self.lists["elements"], self.lists["buffer"]
+        code, index, first = walk.start(q, elements, len(buffer))
+        atoms = [] if code else walk.scan(q, elements)
+        after = walk.written(atoms, buffer)
+        assert cube.pack(q, elements, buffer) == (code, index, after)
+        if first:
+            walk.check(first, elements, atoms)
+        self.picture, self.packed = None, None if code else (q, elements, buffer)
+        positions = [at for at, _ in atoms]
+        head, *listed = self.left((code, index, len(atoms), checksum(positions), "same", after), "buffer")
+        return [head, *([] if self.sums else rows("positions", positions)), *listed]
+
+    def on_step(self, given):
+        """`step`: the atom, the walk behind it, and the atom's bytes; a negative number counts back from 2^64."""
+        before = walk.Walk(*(number % walk.U64_SIZE for number in given))
+        at, stored, after = walk.step(before, self.lists["elements"])
+        told = "none left" if at is None else f"at {at}"
+        return [" ".join(["0 0", told, "walk", *map(str, after)]), *rows("buffer", stored)]
+
+    # --- region tables ---
+
     def on_table(self, name, given):
         """`desk`, `place`, `hand slot`, `hand layout`."""
         code, index = 0, 0
@@ -440,6 +473,10 @@ class Board:
             return self.on_release(*given)
         if name == "paint":
             return self.on_paint(*given)
+        if name == "walk":
+            return self.on_walk(given)
+        if name == "step":
+            return self.on_step(given)
         if name in ("desk", "place", "hand slot", "hand layout"):
             return self.on_table(name, given)
         if name == "ready":

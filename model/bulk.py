@@ -15,6 +15,7 @@ import pixels_cases
 import quantize_cases
 import regions_cases
 import sheet_cases
+import walk_cases
 import weights_cases
 
 SEEDS = count(1)
@@ -66,6 +67,26 @@ def call_lines(t):
 def conversion_lines(t):
     """A conversion."""
     yield said("convert", signed(t.d), short(t.offset), short(t.scale), t.shift, t.precision)
+
+
+# --- walks ---
+
+def wide(number):
+    """A number of 64 bits as the program reads it: one that is too great counts back from 2^64."""
+    return number if number <= walk_cases.WORD_MAX else number - walk_cases.U64_SIZE
+
+
+def walk_lines(t):
+    """A walk, some with a packing behind it; or a step, whose elements are lent before."""
+    if t.op == walk_cases.STEP:
+        yield said("step", *map(wide, t[1:13]))
+        return
+    yield from element_lines(t)
+    if t.op != walk_cases.LEND:
+        yield said("draw buffer", t.m, seed())
+        yield said("walk", *t[1:8])
+    if t.op == walk_cases.BESIDE:
+        yield said("pack", *t[1:8])
 
 
 # --- sessions ---
@@ -198,6 +219,6 @@ def lines():
     kinds = ((cube_cases, call_lines), (weights_cases, call_lines), (pixels_cases, call_lines),
              (quantize_cases, conversion_lines), (lut_cases, (lookups := Lookups()).lines),
              (camera_cases, lookups.lines), (regions_cases, session_lines), (sheet_cases, sheet_lines),
-             (parlour_cases, session_lines))
+             (parlour_cases, session_lines), (walk_cases, walk_lines))
     return ["# drawn cases", "print sums"] + [text for cases, said_of in kinds for t in cases.all_cases()
                                               for text in said_of(t)]

@@ -2,7 +2,7 @@
 
 Beside them stand inputs on which readings of "Cells and cubes", "Stalls",
 "Weights", "Pixels", "Two tables", "The sheet program", "Refusal numbers" and of
-change requests K1, K2, K3 and K5 part.
+change requests K1, K2, K3, K5 and K6 part.
 Prints nothing if all hold.
 """
 
@@ -11,6 +11,7 @@ from itertools import product
 import camera
 import pixels
 import sheet
+import walk
 import weights
 from cube import (Box, CubeLayout, box_positions, element_position, extent, pack, position,
                   read_box, surface_count, unpack, whole_box, write_box)
@@ -212,6 +213,54 @@ def sheet_owners():
     left = filled + b"leave\t1\t7\n"
     assert sheet_answers(left + b"leave\t1\t7\ncell\t1\t0\t0\t0\t7\n")[2:] == [(0, 160), (8, 0), (8, 0)]
     assert sheet_answers(left + b"stall\t1\t1\t0\t2\t1\t8\ncell\t1\t0\t0\t0\t8\n")[3:] == [(0, 80), (0, 32)]
+
+
+def scan_order():
+    """Change request K6: the atoms of the paper's frame; of any small cube each atom once, and what packing leaves."""
+    raw = list(range(-120, 120))
+    atoms = walk.scan(EXAMPLE, raw)
+    assert [at for at, _ in atoms] == [0, 32, 64, 128, 160, 192, 256, 288, 320, 384, 416, 448]
+    assert atoms[1][1] == bytes(raw[6 * c + 1] % 256 for c in range(32))
+    assert atoms[-1] == (448, bytes(raw[6 * c + 5] for c in range(32, 40)) + bytes(24))
+    assert walk.first_walk(EXAMPLE) == (0, 0, 3, 2, 40, 0, 3, 2, 6, 64, 64, 187)
+    for width, height, channels, precision, gap in product((1, 2, 3), (1, 2, 3), (1, 15, 16, 17, 32, 33, 65), range(3),
+                                                           (0, 32)):
+        line = 32 * width + gap
+        q = CubeLayout(width, height, channels, precision, line, height * line + 2 * gap, gap)
+        raw = [i % 256 - 128 for i in range(width * height * channels)]
+        buffer = bytes([238]) * (gap + extent(q)[2] + 9)
+        code, index, first = walk.start(q, raw, len(buffer))
+        atoms = walk.scan(q, raw)
+        assert len(atoms) == surface_count(q) * height * width
+        assert pack(q, raw, buffer) == (code, index, walk.written(atoms, buffer)) and code == 0
+        walk.check(first, raw, atoms)
+
+
+def walk_refusals():
+    """Change request K6: a start is refused as packing is; of the buffer it gets the length, any number."""
+    raw = [0] * 240
+    assert walk.start(EXAMPLE, raw, 480)[:2] == walk.start(EXAMPLE, raw, 2 ** 64 - 1)[:2] == (0, 0)
+    assert walk.start(EXAMPLE, raw, 479) == (5, 0, None)
+    assert walk.start(EXAMPLE, raw[1:], 479) == (6, 0, None)
+    assert walk.start(EXAMPLE._replace(start=16), raw[1:], 0) == (4, 0, None)
+    assert walk.start(EXAMPLE, raw[:9] + [128] + raw[10:], 480) == (7, 9, None)
+    assert walk.start(EXAMPLE._replace(precision=1), raw[:9] + [128] + raw[10:], 992)[:2] == (0, 0)
+
+
+def any_walk():
+    """Open point 27: a missing element is 0, and a sum past 64 bits leaves none; the walk is then as it came."""
+    first, most = walk.first_walk(EXAMPLE), 2 ** 64 - 1
+    assert walk.step(first, [7, 8]) == (0, bytes([7]) + bytes(31), first._replace(position=32, index=1, columns=2))
+    assert walk.step(first, [])[:2] == (0, bytes(32))
+    assert walk.step(first._replace(plane=0), [7])[1] == bytes([7]) * 32
+    assert walk.step(first._replace(plane=most), [7])[1] == bytes([7]) + bytes(31)
+    for none in (first._replace(channels=0), first._replace(position=most - 31), first._replace(index=most),
+                 first._replace(columns=1, line=most, position=1),
+                 first._replace(columns=0, rows=0, group=most, index=1)):
+        assert walk.step(none, [7]) == (None, bytes(32), none)
+    assert walk.step(first._replace(position=most - 32), [])[2].position == most
+    last = first._replace(columns=1, rows=1, channels=32, position=most, index=most)
+    assert walk.step(last, []) == (most, bytes(32), last._replace(columns=0, rows=0, channels=0))
 
 
 def starred_weights():
@@ -512,6 +561,9 @@ if __name__ == "__main__":
     sheet_lines()
     sheet_frames()
     sheet_owners()
+    scan_order()
+    walk_refusals()
+    any_walk()
     starred_weights()
     weight_order()
     lent_weights()

@@ -220,7 +220,7 @@ pub fn is_whole(line: Line) -> bool {
     line.command != UNKNOWN && !line.damaged && (kind == b'\n' || list_of(kind) < 3)
 }
 
-// Number k of a line's sixteen, as a natural number, a position, an element, a signed number of 32 bits.
+// Number k of a line's sixteen, as a natural number, a position, a number of 64 bits, an element, a signed number of 32 bits.
 pub fn natural(numbers: [u64; 16], k: usize) -> u32 {
     crate::numbers::natural(numbers[k % 16])
 }
@@ -228,6 +228,10 @@ pub fn natural(numbers: [u64; 16], k: usize) -> u32 {
 pub fn position(numbers: [u64; 16], k: usize) -> u64 {
     let v = numbers[k % 16];
     if v < 2147483648 { 0 } else { v - 2147483648 }
+}
+
+pub fn word(numbers: [u64; 16], k: usize) -> u64 {
+    std::num::wrapping_sub_u64(numbers[k % 16], 2147483648)
 }
 
 pub fn short(numbers: [u64; 16], k: usize) -> i16 {

@@ -153,7 +153,7 @@ fn at(list: u32, i: usize, elements: &[i16], buffer: &[u8], samples: &[i32]) -> 
 }
 
 // A checksum with one number more, which is printed if `shown`; `ends` says whether it is the last of its line.
-fn told(sum: u64, list: u32, ends: bool, v: u64, shown: bool) -> u64 {
+pub fn told(sum: u64, list: u32, ends: bool, v: u64, shown: bool) -> u64 {
     if shown {
         print_item(list == 1, ends, v);
     }
@@ -161,7 +161,7 @@ fn told(sum: u64, list: u32, ends: bool, v: u64, shown: bool) -> u64 {
 }
 
 // Whether the i-th number of so many is the last of its line, which has 32.
-fn is_last(i: usize, count: usize) -> bool {
+pub fn is_last(i: usize, count: usize) -> bool {
     i % 32 == 0 || i == count
 }
 

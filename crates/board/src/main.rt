@@ -8,6 +8,7 @@ mod lookup;
 mod numbers;
 mod paint;
 mod print;
+mod scan;
 mod sheet;
 mod state;
 mod words;
@@ -162,6 +163,14 @@ fn run_lent(state: State, elements: &mut [i16], buffer: &mut [u8], samples: &mut
             state
         }
         52 => painted(state, elements, buffer, samples),
+        55 => {
+            scan::run(line.number, numbers, state.sums, elements, buffer, samples);
+            state
+        }
+        56 => {
+            scan::step(line.number, numbers, elements, samples);
+            state
+        }
         _ => call(state, elements, buffer, samples),
     }
 }

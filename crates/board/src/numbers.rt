@@ -25,6 +25,11 @@ pub fn of_short(z: i16) -> u64 {
     of_signed(z as i32)
 }
 
+// The lifted number of a position, modulo 4294967296.
+pub fn of_position(p: u64) -> u64 {
+    p % 4294967296 + 2147483648
+}
+
 // The lifted number of a byte.
 pub fn of_byte(b: u8) -> u64 {
     b as u64 + 2147483648

@@ -11,7 +11,7 @@ use lib.Dec.{leb}
 use borrow.Author.Tests.{eq-eqb, ne-eqb}
 use Rattle.elements.proofs.ByteLaws.{elementBytes-le}
 use Rattle.weights.specs.declared.WeightLayout.{WeightLayout}
-use Rattle.weights_calls.specs.declared.walk.Run.{Run}
+use Rattle.weights_calls.specs.declared.runs.Run.{Run}
 use Rattle.weights.specs.Geometry.{sizeOf, groupKernels, blockChannels}
 use Rattle.weights.specs.StepsPixels.{pixelNumber, pixelIndex}
 use Rattle.weights_calls.specs.Steps.{groupIn, AtRun, widthOf, runColumns}

@@ -14,7 +14,7 @@ use Rattle.elements.proofs.ByteLaws.{elementBytes-pos, elementBytes-le}
 use Rattle.columns.specs.declared.ColumnBlock.{ColumnBlock}
 use Rattle.columns.proofs.BlockLaws.{BlockFits}
 use Rattle.weights.specs.declared.WeightLayout.{WeightLayout}
-use Rattle.weights_calls.specs.declared.walk.Run.{Run}
+use Rattle.weights_calls.specs.declared.runs.Run.{Run}
 use Rattle.weights.specs.Geometry.{sizeOf, elementCount, groupKernels, blockChannels, rawAt}
 use Rattle.weights.specs.StepsPixels.{pixelNumber, pixelIndex}
 use Rattle.weights_calls.specs.Steps.{groupIn, AtRun, widthOf, runColumns, pixelColumns, channelColumns}

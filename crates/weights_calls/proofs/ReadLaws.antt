@@ -20,7 +20,7 @@ use Rattle.weights.specs.Contents.{unpacked}
 use Rattle.weights.proofs.Valid.{Valid}
 use Rattle.weights.proofs.IndexLaws.{rawAt-lt, numberAt-lt, numberAt-rawAt, rawAt-numberAt}
 use Rattle.weights.proofs.SurfaceLaws.{surface-ge}
-use Rattle.weights_calls.specs.declared.walk.Run.{Run}
+use Rattle.weights_calls.specs.declared.runs.Run.{Run}
 use Rattle.weights_calls.specs.Steps.{AtRun, NextRun, runColumns}
 use Rattle.weights_calls.proofs.CellLaws.{Holds, run-holds, holds-fits}
 use Rattle.weights_calls.proofs.WalkLaws.{RunHas, Walked, walked-first, walked-next, walked-all}

@@ -11,7 +11,7 @@ use mathlib.Core.Path.{_≡_, refl, sym, ap, _∙_}
 use mathlib.Core.Logic.{_⊎_, inl, inr, ⊎-elim}
 use lib.Arith.{digits-div}
 use Rattle.weights.specs.declared.WeightLayout.{WeightLayout}
-use Rattle.weights_calls.specs.declared.walk.Run.{Run}
+use Rattle.weights_calls.specs.declared.runs.Run.{Run}
 use Rattle.weights.specs.Geometry.{groupOf, groupKernels}
 use Rattle.weights_calls.specs.Steps.{groupIn, AtKernel, AtRun, InRun, rankOf, NextRun}
 use Rattle.weights.proofs.Valid.{Valid}

@@ -14,7 +14,7 @@ use Rattle.weights.specs.Geometry.{groupOf, elementCount, groupKernels, blockCh
 use Rattle.weights.specs.StepsPixels.{pixelNumber}
 use Rattle.weights.proofs.Valid.{Valid}
 use Rattle.weights.proofs.OffsetLaws.{group-below, block-below, place-at, number-at}
-use Rattle.weights_calls.specs.declared.walk.Run.{Run}
+use Rattle.weights_calls.specs.declared.runs.Run.{Run}
 use Rattle.weights_calls.specs.Steps.{groupIn, AtKernel, AtRun, rankOf, NextRun}
 use Rattle.weights_calls.proofs.RunLaws.{run-small, group-of, first-run}
 use Rattle.weights_calls.proofs.CellLaws.{OfRun}

@@ -27,7 +27,7 @@ use Rattle.weights.specs.Geometry.{sizeOf, elementCount, surfaceBytes, rawAt}
 use Rattle.weights.specs.Contents.{packed}
 use Rattle.weights.proofs.Valid.{Valid}
 use Rattle.weights.proofs.SurfaceLaws.{surface-ge, byte-within, packed-length, packed-at, packed-byte, packed-fill, packed-past}
-use Rattle.weights_calls.specs.declared.walk.Run.{Run}
+use Rattle.weights_calls.specs.declared.runs.Run.{Run}
 use Rattle.weights_calls.specs.Steps.{AtRun, NextRun, runColumns, written}
 use Rattle.weights_calls.proofs.CellLaws.{Holds, run-holds, holds-fits}
 use Rattle.weights_calls.proofs.WalkLaws.{RunHas, Walked, walked-first, walked-next, walked-all}

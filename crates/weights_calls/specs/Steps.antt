@@ -10,7 +10,7 @@ use lib.IntN.{ℤ}
 use Rattle.elements.specs.Lists.{remade}
 use Rattle.columns.specs.declared.ColumnBlock.{ColumnBlock}
 use Rattle.weights.specs.declared.WeightLayout.{WeightLayout}
-use Rattle.weights_calls.specs.declared.walk.Run.{Run}
+use Rattle.weights_calls.specs.declared.runs.Run.{Run}
 use Rattle.weights.specs.Geometry.{sizeOf, groupOf, elementCount, groupKernels, blockChannels}
 use Rattle.weights.specs.Contents.{packedByte}
 use Rattle.weights.specs.StepsPixels.{pixelNumber, pixelIndex}

@@ -4,7 +4,7 @@ ghost use mathlib.Core.Bool.{true};
 ghost use Rattle.weights.specs.Geometry.{elementNumber, elementPosition};
 ghost use Rattle.weights.specs.Rules.{sizesValid};
 ghost use Rattle.weights.specs.Places.{Element};
-use crate::walk;
+use crate::runs;
 use weights::WeightLayout;
 
 // The number of an element: the elements of the groups before its own and of the blocks before its own there, then those before it in the block.
@@ -13,9 +13,9 @@ fn number_of(layout: WeightLayout, kernel: u32, channel: u32, row: u32, column: 
     requires { ⌜ Element layout kernel channel row column ⌝ }
     ensures { λ r. ⌜ r ≡ elementNumber layout kernel channel row column ⌝ }
 {
-    let group = walk::group_size(layout.precision);
+    let group = runs::group_size(layout.precision);
     let first = kernel / group * group;
-    let kernels = walk::group_kernels(layout, first);
+    let kernels = runs::group_kernels(layout, first);
     let begin = channel / 64 * 64;
     let channels = general::least(64, layout.channels - begin);
     let pixel = row * layout.columns + column;

@@ -3,7 +3,7 @@ mod element;
 mod measure;
 mod read;
 mod rules;
-mod walk;
+mod runs;
 mod write;
 
 ghost use mathlib.Core.Path.{_≡_};

@@ -5,8 +5,8 @@ ghost use Rattle.refusal.specs.declared.Answer.the-variants.{Accepted};
 ghost use Rattle.refusal.specs.Checks.{inOrder};
 ghost use Rattle.weights.specs.Rules.{weightChecks};
 ghost use Rattle.weights.specs.Contents.{unpacked};
-use crate::walk;
-use crate::walk::Run;
+use crate::runs;
+use crate::runs::Run;
 use weights::WeightLayout;
 
 // Reads all runs: every element.
@@ -20,7 +20,7 @@ pub(crate) fn runs(layout: WeightLayout, buffer: &[u8], elements: &mut [i16])
         kernel: 0,
     };
     while run.first < layout.kernels {
-        columns_calls::read(walk::run_columns(layout, run), buffer, elements);
-        run = walk::next(layout, run);
+        columns_calls::read(runs::run_columns(layout, run), buffer, elements);
+        run = runs::next(layout, run);
     }
 }

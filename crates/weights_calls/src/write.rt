@@ -5,8 +5,8 @@ ghost use Rattle.refusal.specs.declared.Answer.the-variants.{Accepted};
 ghost use Rattle.refusal.specs.Checks.{inOrder};
 ghost use Rattle.weights.specs.Rules.{weightChecks};
 ghost use Rattle.weights_calls.specs.Steps.{written};
-use crate::walk;
-use crate::walk::Run;
+use crate::runs;
+use crate::runs::Run;
 use weights::WeightLayout;
 
 // Writes all runs: the bytes of every element.
@@ -20,7 +20,7 @@ pub(crate) fn runs(layout: WeightLayout, elements: &[i16], buffer: &mut [u8])
         kernel: 0,
     };
     while run.first < layout.kernels {
-        columns_calls::write(walk::run_columns(layout, run), elements, buffer);
-        run = walk::next(layout, run);
+        columns_calls::write(runs::run_columns(layout, run), elements, buffer);
+        run = runs::next(layout, run);
     }
 }

@@ -1,8 +1,8 @@
--- `weights_calls::walk::group_size` meets its contract: its test is the definition's. Assumes nothing.
+-- `weights_calls::runs::group_size` meets its contract: its test is the definition's. Assumes nothing.
 use mathlib.Core.Path.{sym}
 use Rattle.weights.proofs.NumberLaws.{groupSize-int8, groupSize-other}
-use Rattle.weights_calls.proofs.walk.group_size.Statement.{statement}
-use Rattle.weights_calls.proofs.walk.group_size.Tie as tie
+use Rattle.weights_calls.proofs.runs.group_size.Statement.{statement}
+use Rattle.weights_calls.proofs.runs.group_size.Tie as tie
 
 returns : tie.Need-returns
 returns c = sym (groupSize-int8 (c .before .args .precision) (c .if1 .taken))

@@ -1,4 +1,4 @@
--- `weights_calls::walk::run_columns` meets its contract: its products are the definition's, within 64 bits. Assumes nothing.
+-- `weights_calls::runs::run_columns` meets its contract: its products are the definition's, within 64 bits. Assumes nothing.
 use native.Mathlib.Omega.{arith}
 use mathlib.Core.Path.{_∙_}
 use Rattle.weights.specs.Geometry.{blockChannels}
@@ -7,8 +7,8 @@ use Rattle.weights.proofs.BoundLaws.{pixels-le}
 use Rattle.weights_calls.proofs.RunLaws.{kernels-of}
 use Rattle.weights_calls.proofs.BlockLaws.{Numbers, Bounds, run-bounds, channel-columns, pixel-columns}
 use borrow.Author.Needs.{needs}
-use Rattle.weights_calls.proofs.walk.run_columns.Statement.{statement}
-use Rattle.weights_calls.proofs.walk.run_columns.Tie as tie
+use Rattle.weights_calls.proofs.runs.run_columns.Statement.{statement}
+use Rattle.weights_calls.proofs.runs.run_columns.Tie as tie
 
 abbrev entry : tie.After-least → tie.Start
 entry c = c .before .before .before .before .before .before

@@ -1,8 +1,8 @@
--- `weights_calls::walk::run_width` meets its contract: its test is the definition's. Assumes nothing.
+-- `weights_calls::runs::run_width` meets its contract: its test is the definition's. Assumes nothing.
 use borrow.Author.Tests.{le-leb, lt-leb}
 use borrow.Author.Needs.{needs}
-use Rattle.weights_calls.proofs.walk.run_width.Statement.{statement}
-use Rattle.weights_calls.proofs.walk.run_width.Tie as tie
+use Rattle.weights_calls.proofs.runs.run_width.Statement.{statement}
+use Rattle.weights_calls.proofs.runs.run_width.Tie as tie
 
 mul-result : tie.Need-mul-result
 mul-result c = search needs

@@ -1,4 +1,4 @@
--- `weights_calls::walk::next` meets its contract: it goes to the next kernel, else to the next block, else to the next group, and to that at once where
+-- `weights_calls::runs::next` meets its contract: it goes to the next kernel, else to the next block, else to the next group, and to that at once where
 -- there is one block, as the laws of runs do. Assumes nothing.
 use Prim.Native.Nat.{ℕ, _+_, _≤_, _<_}
 use native.Mathlib.Omega.{arith}
@@ -9,8 +9,8 @@ use Rattle.weights.proofs.Valid.{Valid, valid}
 use Rattle.weights.proofs.NumberLaws.{groupSize-le}
 use Rattle.weights_calls.proofs.RunLaws.{Small, run-small, kernels-of, next-whole, next-kernel, next-block, next-group}
 use borrow.Author.Needs.{needs}
-use Rattle.weights_calls.proofs.walk.next.Statement.{statement}
-use Rattle.weights_calls.proofs.walk.next.Tie as tie
+use Rattle.weights_calls.proofs.runs.next.Statement.{statement}
+use Rattle.weights_calls.proofs.runs.next.Tie as tie
 
 sizes : (c : tie.Start) → Valid (c .args .layout)
 sizes c = valid (c .args .layout) (c .pre .0)

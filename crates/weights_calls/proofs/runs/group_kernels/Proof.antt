@@ -1,9 +1,9 @@
--- `weights_calls::walk::group_kernels` meets its contract: the lesser is the definition's. Assumes nothing.
+-- `weights_calls::runs::group_kernels` meets its contract: the lesser is the definition's. Assumes nothing.
 use Prim.Native.Nat.{ℕ, _-_, min}
 use mathlib.Core.Path.{ap, _∙_}
 use borrow.Author.Needs.{needs}
-use Rattle.weights_calls.proofs.walk.group_kernels.Statement.{statement}
-use Rattle.weights_calls.proofs.walk.group_kernels.Tie as tie
+use Rattle.weights_calls.proofs.runs.group_kernels.Statement.{statement}
+use Rattle.weights_calls.proofs.runs.group_kernels.Tie as tie
 
 group-size-requires : tie.Need-group-size-requires
 group-size-requires c κs = search needs
