@@ -22,7 +22,7 @@
 
 /* The header's version; olsketina_version() gives the archive's. It grows with every change of a call, of its answers or of a word's
  * meaning. */
-#define OLSKETINA_VERSION 6
+#define OLSKETINA_VERSION 7
 
 /* A parameter that points to (at least) n elements; a result that must be looked at. */
 #ifdef __cplusplus
@@ -159,6 +159,50 @@ OLSKETINA_NODISCARD uint32_t olsketina_cube_unpack(
 OLSKETINA_NODISCARD uint32_t olsketina_cube_position(
     const uint32_t layout[OLSKETINA_WORDS(OLSKETINA_LAYOUT_WORDS)],
     uint32_t channel, uint32_t row, uint32_t column, uint64_t *value, size_t *fault);
+
+/* ---- atoms in scan order: columns fastest, then rows, then surfaces */
+
+/* bytes of an atom */
+#define OLSKETINA_ATOM_BYTES 32
+
+/* words of a walk: the next atom's byte position, and the raw index of its first element; how many columns of its line, rows of its surface and
+ * channels from its first one on are left, its own counted (no channel: no atom is left); of the cube the precision, the columns of a line, the rows
+ * of a surface, the elements of a channel; then bytes from the last atom of a line to the first of the next line, bytes from the last atom of a
+ * surface to the first of the next surface, and elements between those two. A sender hands them on and need not look at them. */
+#define OLSKETINA_WALK_POSITION 0
+#define OLSKETINA_WALK_INDEX 1
+#define OLSKETINA_WALK_COLUMNS 2
+#define OLSKETINA_WALK_ROWS 3
+#define OLSKETINA_WALK_CHANNELS 4
+#define OLSKETINA_WALK_PRECISION 5
+#define OLSKETINA_WALK_WIDTH 6
+#define OLSKETINA_WALK_HEIGHT 7
+#define OLSKETINA_WALK_PLANE 8
+#define OLSKETINA_WALK_LINE 9
+#define OLSKETINA_WALK_SURFACE 10
+#define OLSKETINA_WALK_GROUP 11
+#define OLSKETINA_WALK_WORDS 12
+
+/* Writes the walk before the first atom of a cube. Refused exactly where olsketina_cube_pack with a buffer of buffer_len bytes is, by the same number
+ * and index; no buffer is lent.
+ * Order: 1, 2, 3, 4, 6, 5, 7 (fault: the least raw index at fault). */
+OLSKETINA_NODISCARD uint32_t olsketina_walk_start(
+    const uint32_t layout[OLSKETINA_WORDS(OLSKETINA_LAYOUT_WORDS)],
+    const int16_t *elements, size_t elements_len, size_t buffer_len, uint64_t walk[OLSKETINA_WORDS(OLSKETINA_WALK_WORDS)], size_t *fault);
+
+/* Gives the next atom and returns 1: where it begins is stored in *position, its bytes in bytes, padding as 0, and the walk's words become those
+ * behind it. Returns 0 where none is left; nothing is written then.
+ *
+ *     while (olsketina_walk_step(walk, elements, elements_len, &position, bytes))
+ *         send(position, bytes);
+ *
+ * Where each step gets the walk last handed back and the elements of the start, every atom is given once, surfaces * height * width in all, then 0
+ * for ever; each written at its position, they leave what olsketina_cube_pack leaves. A step goes on by sums alone. Any other words and elements are
+ * taken too: an element that is missing is 0, and where a sum would pass 64 bits none is left.
+ * Refuses nothing. */
+OLSKETINA_NODISCARD uint32_t olsketina_walk_step(
+    uint64_t walk[OLSKETINA_WORDS(OLSKETINA_WALK_WORDS)], const int16_t *elements, size_t elements_len,
+    uint64_t *position, uint8_t bytes[OLSKETINA_WORDS(OLSKETINA_ATOM_BYTES)]);
 
 /* ---- regions of one cube (the scope paper's stalls) */
 

@@ -34,12 +34,14 @@ mod lookup;
 mod paint;
 mod settings;
 mod sheet;
+mod walk;
 
 pub use cubes::{ElementBox, Layout, Region, Table};
 pub use lookup::{camera, Choice, Counters, Lookup, Mode, Slope, TableSettings};
 pub use paint::Conversion;
 pub use settings::{convert, Converted, Image, Weights};
 pub use sheet::{header_text, Row, Sheet};
+pub use walk::{Atom, Walk};
 
 /// The calls themselves, declared from the signatures of the Rattle sources (build.rs).
 pub mod raw {

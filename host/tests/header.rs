@@ -73,8 +73,11 @@ fn c_file(exports: &[Exports], lengths: &[(String, String)]) -> String {
         text += &format!("{result} (*check_{name})({types}) = {name};\n");
     }
     let slot = [&["placed", "owner"], Region::WORDS].concat();
-    let words: [(&str, &[&str]); 10] = [
+    #[rustfmt::skip]
+    let walk = ["position", "index", "columns", "rows", "channels", "precision", "width", "height", "plane", "line", "surface", "group"];
+    let words: [(&str, &[&str]); 11] = [
         ("LAYOUT", Layout::WORDS),
+        ("WALK", &walk),
         ("BOX", ElementBox::WORDS),
         ("SLOT", &slot),
         ("WEIGHTS", Weights::WORDS),
@@ -201,6 +204,11 @@ fn a_wrong_header_fails() {
         ("exchanged words", "#define OLSKETINA_IMAGE_START 6", "#define OLSKETINA_IMAGE_START 7", "static assertion"),
         ("a slot without its owner", "#define OLSKETINA_SLOT_WORDS 6", "#define OLSKETINA_SLOT_WORDS 5", "static assertion"),
         ("another number of slots", "#define OLSKETINA_SLOTS 16", "#define OLSKETINA_SLOTS 15", "static assertion"),
+        ("a walk of 32-bit words", "uint64_t walk[", "uint32_t walk[", "incompatible"),
+        ("a walk without its last word", "#define OLSKETINA_WALK_WORDS 12", "#define OLSKETINA_WALK_WORDS 11", "static assertion"),
+        ("exchanged words of a walk", "#define OLSKETINA_WALK_LINE 9", "#define OLSKETINA_WALK_LINE 10", "static assertion"),
+        ("half an atom", "#define OLSKETINA_ATOM_BYTES 32", "#define OLSKETINA_ATOM_BYTES 16", "static assertion"),
+        ("a length of 32 bits", "size_t buffer_len, uint64_t walk", "uint32_t buffer_len, uint64_t walk", "incompatible"),
     ];
     for (name, old, new, reason) in wrong {
         assert!(header.contains(old), "{name}: the header has no {old:?}");
@@ -241,6 +249,25 @@ fn the_archives_have_the_names_of_the_sources() {
         exported.sort_unstable();
         assert_eq!(defined, exported, "{}", archive.display());
     }
+}
+
+/// How many instructions of an export multiply or divide, and how many call.
+fn products_and_calls(name: &str) -> [usize; 2] {
+    let arguments = ["-d", "--no-show-raw-insn", &format!("--disassemble={name}")];
+    let output = Command::new("objdump").args(arguments).arg(archive("olsketina")).output().expect("objdump runs");
+    let text = String::from_utf8_lossy(&output.stdout).into_owned();
+    let words: Vec<&str> = text.lines().filter_map(|line| line.split_once(":\t")?.1.split_whitespace().next()).collect();
+    assert!(words.iter().any(|word| word.starts_with("ret")), "{name}: {text}");
+    let begins = |with: &[&str]| words.iter().filter(|word| with.iter().any(|begin| word.starts_with(begin))).count();
+    [begins(&["mul", "imul", "div", "idiv"]), begins(&["call"])]
+}
+
+/// A step of a walk goes on by sums alone, also where it is compiled: it multiplies and divides nothing, and calls nothing that could. A position
+/// is found by products, which are seen.
+#[test]
+fn a_step_has_no_product() {
+    assert_eq!(products_and_calls("olsketina_walk_step"), [0, 0]);
+    assert_ne!(products_and_calls("olsketina_cube_position")[0], 0);
 }
 
 /// The curve's two crates have the same exports, so that either archive goes with the header.

@@ -75,6 +75,28 @@ pub fn pack(layout: Layout, elements: &[i16], buffer: &mut [u8]) -> Answer<()> {
     write_box(layout, whole(layout), true, elements, buffer)
 }
 
+/// Atom by atom in scan order: surface, row, column, then the channels of the atom.
+#[inline(never)]
+pub fn scan(layout: Layout, elements: &[i16], buffer: &mut [u8]) -> Answer<()> {
+    cube::admitted(layout, elements.len(), buffer.len())?;
+    elements::check_values(layout.precision, elements)?;
+    let [_, [channels, rows, columns]] = whole(layout);
+    let [start, surface, line] = [layout.start, layout.surface, layout.line].map(|bytes| bytes as usize);
+    let bytes = element_bytes(layout.precision);
+    for (s, first) in (0..channels).step_by(ATOM / bytes).enumerate() {
+        let last = channels.min(first + ATOM / bytes);
+        for h in 0..rows {
+            for w in 0..columns {
+                let atom = &mut buffer[start + s * surface + h * line + w * ATOM..][..ATOM];
+                atom.fill(0);
+                let from = (first..last).map(|c| &elements[(c * rows + h) * columns + w]);
+                write(layout.precision, atom.chunks_exact_mut(bytes), 0, from);
+            }
+        }
+    }
+    Ok(())
+}
+
 #[inline(never)]
 pub fn edit(table: &Table, slot: u32, id: u32, part: ElementBox, elements: &[i16], buffer: &mut [u8]) -> Answer<()> {
     let part = regions::admitted(table, slot, id, part, elements.len(), buffer.len())?;

@@ -7,7 +7,7 @@ use std::slice::from_ref;
 use std::time::Instant;
 
 use draw::Generator;
-use olsketina::{raw, Answer, Conversion, Counters, Layout, Lookup, Mode, Slope, Table, TableSettings, Weights};
+use olsketina::{raw, Answer, Atom, Conversion, Counters, Layout, Lookup, Mode, Slope, Table, TableSettings, Walk, Weights};
 
 #[path = "../../tests/compare/draw.rs"]
 #[allow(dead_code)]
@@ -74,8 +74,9 @@ const TABLES: [(&str, &[Step]); 3] = [
 /// One of those that are timed, with buffers of its own: no other brings its data into the caches.
 type Contender<'a> = Box<dyn FnMut(Step) + 'a>;
 
-/// The contenders, in the order of the tables' columns.
+/// The contenders, in the order of the tables' columns; those of walks.
 const NAMES: [&str; 3] = ["ours", "Rust loop", "memcpy"];
+const WALKS: [&str; 3] = ["walk", "Rust loop", "pack"];
 const RUST_LOOP: usize = 1;
 const MEMCPY: usize = 2;
 
@@ -131,18 +132,31 @@ struct Row {
     bar: Option<(f64, usize)>,
 }
 
+/// Compares what calls give and leave, of which the first is the library's and the second the Rust loop's.
+fn compared<const N: usize, I: Copy, O: Copy + PartialEq>(
+    name: &str, input: &[I], output: &[O], calls: &[impl Fn(&[I], &mut [O]) -> Answer<Gives>; N],
+) -> Gives {
+    eprintln!("{name}");
+    let results = calls.each_ref().map(|call| {
+        let mut left = output.to_vec();
+        (call(input, &mut left).expect("accepted"), left)
+    });
+    assert!(results.iter().all(|result| *result == results[1]), "{name}: the library differs from the Rust loop");
+    results[0].0
+}
+
+fn timed(name: &str, repetitions: usize, cells: usize, gives: Gives, mut contenders: [Contender; 3]) -> Row {
+    let times = TABLES.map(|(_, before)| interleave(repetitions, before, &mut contenders));
+    Row { name: name.to_string(), cells, gives, times, bar: None }
+}
+
 /// Compares what two calls, the library's and the Rust loop's, give and leave; then times them and a memcpy. The time is divided by `cells`;
 /// the calls write these parts of the output, and what it holds before shows what they leave.
 fn measure<I: Copy, O: Copy + Default + PartialEq>(
     name: &str, repetitions: usize, cells: usize, input: &[I], output: &[O], written: &[Range<usize>],
     calls: [impl Fn(&[I], &mut [O]) -> Answer<Gives>; 2],
 ) -> Row {
-    eprintln!("{name}");
-    let results = calls.each_ref().map(|call| {
-        let mut left = output.to_vec();
-        (call(input, &mut left).expect("accepted"), left)
-    });
-    assert!(results[0] == results[1], "{name}: the library differs from the Rust loop");
+    let gives = compared(name, input, output, &calls);
     let half = (size_of_val(input) + written.iter().map(Range::len).sum::<usize>() * size_of::<O>()) / 2;
     let all = 0..half;
     let [ours, plain] = calls.map(|call| contender(input, output, written, call));
@@ -150,9 +164,7 @@ fn measure<I: Copy, O: Copy + Default + PartialEq>(
         target.copy_from_slice(source);
         Ok(Nothing)
     });
-    let mut contenders = [ours, plain, copy];
-    let times = TABLES.map(|(_, before)| interleave(repetitions, before, &mut contenders));
-    Row { name: name.to_string(), cells, gives: results[0].0, times, bar: None }
+    timed(name, repetitions, cells, gives, [ours, plain, copy])
 }
 
 // ---- the jobs: for each, the library's call and the Rust loop
@@ -197,6 +209,35 @@ fn pack<S: Copy>(name: &str, repetitions: usize, (setting, elements, bytes): Pac
 
 fn unpack<S: Copy>(name: &str, repetitions: usize, (setting, elements, bytes): Packed<S>, calls: [Call<S, u8, i16>; 2]) -> Row {
     convey(name, repetitions, elements.len(), setting, &bytes, &vec![0; elements.len()], calls)
+}
+
+/// A start and all steps, each atom stored at its position.
+fn walked(layout: Layout, elements: &[i16], buffer: &mut [u8]) -> Answer<()> {
+    let mut walk = Walk::start(layout, elements, buffer.len())?;
+    while let Some(atom) = walk.step(elements) {
+        buffer[atom.position as usize..][..Atom::BYTES].copy_from_slice(&atom.bytes);
+    }
+    Ok(())
+}
+
+/// A walk beside a Rust loop in the same order and beside packing; a cell is an atom.
+fn walk(name: &str, words: [u32; 4]) -> Row {
+    let (layout, elements, bytes) = cube(words);
+    let calls = [walked, loops::scan, Layout::pack]
+        .map(|call: Call<Layout, i16, u8>| move |from: &[i16], to: &mut [u8]| call(black_box(layout), from, to).map(|()| Nothing));
+    let (output, all) = (vec![LEFT; bytes.len()], 0..bytes.len());
+    let gives = compared(name, &elements, &output, &calls);
+    timed(name, 41, bytes.len() / Atom::BYTES, gives, calls.map(|call| contender(&elements, &output, from_ref(&all), call)))
+}
+
+/// The channels of 640×480 and of 1024×64 lie whole pages apart, so that those of an atom meet in the caches; those of 641×480 do not.
+fn walks() -> [Row; 4] {
+    [
+        walk("walk 640×480×32 int8", [640, 480, 32, 0]),
+        walk("walk 641×480×32 int8", [641, 480, 32, 0]),
+        walk("walk 640×480×3 int8", [640, 480, 3, 0]),
+        walk("walk 1024×64×64 int16", [1024, 64, 64, 1]),
+    ]
 }
 
 const SLOT: u32 = 5;
@@ -296,9 +337,9 @@ fn lookup(name: &str, l: &Lookup, samples: &[i32], run: usize) -> Row {
 
 // ---- the tables
 
-fn print_table(title: &str, rows: &[Row], number: usize) {
-    let [ours, others @ ..] = NAMES;
-    let columns = NAMES.map(|name| format!(" {name}, ns per cell |")).concat() + &others.map(|name| format!(" {ours} / {name} |")).concat();
+fn print_table(title: &str, names: [&str; 3], rows: &[Row], number: usize) {
+    let [ours, others @ ..] = names;
+    let columns = names.map(|name| format!(" {name}, ns per cell |")).concat() + &others.map(|name| format!(" {ours} / {name} |")).concat();
     println!("\n{title}\n\n| workload | cells |{columns} bar | result |\n|---|---:|{}---:|---|", "---:|".repeat(5));
     for Row { name, cells, times, bar, .. } in rows {
         print!("| {name} | {cells} |");
@@ -308,7 +349,7 @@ fn print_table(title: &str, rows: &[Row], number: usize) {
         times[1..].iter().for_each(|&other| print(times[0], other));
         let judged = bar.map(|(most, other)| {
             let met = times[0].iter().zip(times[other]).all(|(ours, other)| ours / other <= most);
-            format!("{most:.2} × {} | {}", NAMES[other], if met { "met" } else { "missed" })
+            format!("{most:.2} × {} | {}", names[other], if met { "met" } else { "missed" })
         });
         println!(" {} |", judged.unwrap_or(" | ".to_string()));
     }
@@ -317,7 +358,7 @@ fn print_table(title: &str, rows: &[Row], number: usize) {
 const EXPLAINED: &str = "\
 One thread, timed by its own running time; release builds; every result was compared with the Rust loop's before timing.
 Figures are the best repetition, in brackets the median. A bar is met where both ratios meet it. Interrupted runs do not count, unless
-they are more than half. Of lookups in runs of 1 and 64 samples a cell is a run; of the curve a cell is a whole table.
+they are more than half. Of lookups in runs of 1 and 64 samples a cell is a run; of the curve a cell is a whole table, of walks an atom.
 
 Painting: (d - 100) * 3 over 2^shift to the nearest, shift 2 for int8 and 8 for int16, which holds no component; 1 where a third of them
 are held.
@@ -332,10 +373,14 @@ Samples of each kind (X only, Y only, underflow, overflow, priority):";
 /// The curve that is linked.
 const CURVE: &str = if cfg!(feature = "computed-curve") { "curve of 257 entries, computed" } else { "curve of 257 entries, stored" };
 
-/// With the word `curve`, the curve alone.
+/// With the word `curve`, the curve alone; with `walk`, the walks.
 fn main() {
     if std::env::args().any(|word| word == "curve") {
-        return print_table("The curve alone.", &[curve(CURVE)], 0);
+        return print_table("The curve alone.", NAMES, &[curve(CURVE)], 0);
+    }
+    if std::env::args().any(|word| word == "walk") {
+        let walks = walks();
+        return TABLES.iter().enumerate().for_each(|(number, (title, _))| print_table(title, WALKS, &walks, number));
     }
     const ALL: usize = 1_000_000;
     const FEW: usize = 64_000;
@@ -379,6 +424,7 @@ fn main() {
         rows.push(at_most(1.5, RUST_LOOP, lookup(&name("rising"), &s, &rising, ALL)));
     }
     rows.push(curve(CURVE));
+    let walks = walks();
     println!("{EXPLAINED}");
     for row in &rows {
         if let Kinds(kinds) = row.gives {
@@ -391,5 +437,8 @@ fn main() {
             println!("- {}: {count} of {}", row.name, row.cells);
         }
     }
-    TABLES.iter().enumerate().for_each(|(number, (title, _))| print_table(title, &rows, number));
+    for (number, (title, _)) in TABLES.iter().enumerate() {
+        print_table(title, NAMES, &rows, number);
+        print_table("Atoms in scan order, timed in the same way.", WALKS, &walks, number);
+    }
 }

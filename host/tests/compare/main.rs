@@ -15,4 +15,5 @@ mod paint;
 mod regions;
 mod settings;
 mod sheets;
+mod walk;
 mod worked;

@@ -1,8 +1,8 @@
 //! The scope paper's worked cases, its sheet and the change requests' cases, through the library alone.
 
 use olsketina::{
-    camera, convert, header_text, Answer, Choice, Conversion, Converted, Counters, Image, Layout, Lookup, Mode, Refusal, Sheet, Slope,
-    Table, TableSettings, Weights,
+    camera, convert, header_text, Answer, Atom, Choice, Conversion, Converted, Counters, Image, Layout, Lookup, Mode, Refusal, Sheet,
+    Slope, Table, TableSettings, Walk, Weights,
 };
 
 fn refused<T>(number: u32) -> Answer<T> {
@@ -24,6 +24,34 @@ fn cubes() {
     assert_eq!(buffer[..3], [0xfe, 0xff, 0]);
     let extent = |channels| Layout::from([1, 1, channels, 1, 32, 32, 0]).extent();
     assert_eq!([extent(16), extent(17)], [Ok(32), Ok(64)]);
+}
+
+/// The paper's frame, walked; a walk or elements of another kind.
+#[test]
+fn atoms() {
+    let frame = Layout::from([3, 2, 40, 0, 128, 256, 0]);
+    let elements: Vec<i16> = (0..240).map(|i| i % 120).collect();
+    let mut walk = Walk::start(frame, &elements, 480).expect("accepted");
+    let given: Vec<Atom> = walk.atoms(&elements).collect();
+    let positions: Vec<u64> = given.iter().map(|atom| atom.position).collect();
+    assert_eq!(positions, [0, 32, 64, 128, 160, 192, 256, 288, 320, 384, 416, 448]);
+    // Channel c of row h and column w is (6c + 3h + w) mod 120: the last atom has channels 32 to 39 of (1, 2), then padding.
+    assert_eq!(given[1].bytes[..4], [1, 7, 13, 19]);
+    assert_eq!(given[11].bytes, [[77, 83, 89, 95, 101, 107, 113, 119].as_slice(), &[0; 24]].concat()[..]);
+    assert_eq!(Walk::start(frame, &elements, 479), refused(5));
+    assert_eq!(Walk::start(frame, &elements, usize::MAX), Ok(walk));
+    assert_eq!(Walk::start(frame, &[], 0), refused(6));
+    assert_eq!(Walk::start(frame, &[&elements[..239], &[128]].concat(), 480), Err(Refusal { number: 7, fault: 239 }));
+
+    // A missing element is 0.
+    assert_eq!(walk.step(&[9]), Some(Atom { position: 0, bytes: std::array::from_fn(|at| if at == 0 { 9 } else { 0 }) }));
+    // A sum past 64 bits: none is left, and the walk stays.
+    let mut words = *walk.words();
+    words[0] = u64::MAX - 31;
+    let mut far = Walk::from_words(words);
+    assert_eq!((far.step(&elements), far), (None, Walk::from_words(words)));
+    words[0] -= 1;
+    assert_eq!(Walk::from_words(words).step(&elements).map(|atom| atom.position), Some(u64::MAX - 32));
 }
 
 #[test]

@@ -37,7 +37,7 @@ pub fn admitted(layout: Layout, elements: usize, bytes: usize) -> Answer<Cube> {
 }
 
 impl Cube {
-    fn surfaces(&self) -> i128 {
+    pub fn surfaces(&self) -> i128 {
         (self.channels * bytes_of(self.precision) + 31) / 32
     }
 

@@ -21,6 +21,7 @@ pub mod parlour;
 pub mod pixels;
 pub mod regions;
 pub mod sheet;
+pub mod walk;
 pub mod weights;
 
 use olsketina::{Answer, Refusal};
