@@ -99,7 +99,8 @@ atomByte e channels index plane raw k = cond (ltb (k / e) channels) (byteOf (get
 unfoldable pub atomBytes : Walk → List ℤ → List ℕ
 atomBytes w raw = tabulate 32 (atomByte (elementBytes (w .precision)) (w .channels) (w .index) (w .plane) raw)
 
--- step: the next atom and the walk behind it, or that none is left and the walk as it came
+-- step: the next atom and the walk behind it, or that none is left and the walk as it came. What the papers leave free, a step of another walk or over other
+-- elements than its start's, is answered by the same rule: a missing element is 0, and where a sum would pass 64 bits none is left
 unfoldable pub walkStep : Walk → List ℤ → Step
 walkStep w raw =
     cond (atomLeft w)
