@@ -26,7 +26,7 @@ fn whole(layout: CubeLayout) -> ElementBox
     }
 }
 
-// All checks of a call that writes a box: 1 to 4, 9, 6, 5, 7.
+// All checks of a call that writes a box: 1 to 4, 9, 6, 5, then 7 or 26.
 fn judge(layout: CubeLayout, b: ElementBox, elements: &[i16], len: usize) -> Answer
     ensures { λ r. ⌜ r ≡ writeBoxAnswer layout b (now (elements .entry)) len ⌝ }
 {
@@ -37,7 +37,7 @@ fn judge(layout: CubeLayout, b: ElementBox, elements: &[i16], len: usize) -> Ans
     elements::check_values(layout.precision, elements)
 }
 
-// All checks of packing into a buffer of `len` bytes: 1 to 4, 6, 5, 7.
+// All checks of packing into a buffer of `len` bytes: 1 to 4, 6, 5, then 7 or 26.
 pub fn check_pack(layout: CubeLayout, elements: &[i16], len: usize) -> Answer
     ensures { λ r. ⌜ r ≡ packAnswer layout (now (elements .entry)) len ⌝ }
 {

@@ -1,4 +1,4 @@
--- Laws of the definitions of specs/, for the crates above; the last three serve this crate alone.
+-- Laws of the definitions of specs/, for the crates above; the last four serve this crate alone.
 --     Computed    bytes and values, computed
 --     ListLaws    a list made anew by position: its length and its entries
 --     TabulateLaws   a list given by position: its length and its entries
@@ -6,8 +6,9 @@
 --     ValueLaws   which elements a precision takes, and what a list of such checks answers
 --     WordLaws    the unsigned number that bytes are
 --     SignLaws    signed numbers as the code computes them: the bits of a 16-bit number, and back
---     Claims      the index at fault of a refused list
---     StepLaws    the code's tests of an element, and a pass over the first elements
+--     NanLaws     which numbers are NaN
+--     Claims      number and index of a refused list, and the numbers that are NaN
+--     StepLaws    the code's test of an element, and a pass over the first elements
 pub mod Computed
 pub mod ListLaws
 pub mod TabulateLaws
@@ -15,5 +16,6 @@ pub mod ByteLaws
 pub mod ValueLaws
 pub mod WordLaws
 pub mod SignLaws
+pub mod NanLaws
 pub mod StepLaws
 pub mod Claims

@@ -1,75 +1,88 @@
--- The code's tests of one element, and what a pass over the first elements found (specs/Steps.antt). By cases on the sign, and by induction
+-- The code's test of one element, and what a pass over the first elements found (specs/Steps.antt). By cases on the precision and the sign, and by induction
 -- on how many elements have been passed. Assumes nothing.
 --     read-back                                a 16-bit number as the code reads it
---     valid-low, valid-high, valid-between     an element below -128, above 127, in between
---     raised-valid, or-below                   an element 128 higher, and the bits of two numbers, below 256
+--     raised-int8, raised-fp16                 the code's number of an element, and whether its precision takes it
+--     limit-int8, limit-other                  the least number with a bit above the low ones
+--     refusal-int8, refusal-other              the refusal of an element that a precision does not take
+--     or-below                                 the bits of two numbers
 --     allValid-none, allValid-next             no element yet; one element more
 --     allValid-at, allValid-all                a pass that found no fault took each element, and back
 use Prim.Native.Nat.{ℕ, zero, suc, _+_, _*_, _%_, _^_, _<_, _≤_}
 use mathlib.Core.Path.{_≡_, refl, sym, ap, _∙_}
-use mathlib.Core.Bool.{Bool, true, false, _&&_}
+use mathlib.Core.Bool.{Bool, true, false, not, _&&_}
 use mathlib.Core.List.{List}
-use native.Mathlib.Nat.{not-suc-le-zero}
+use native.Mathlib.Nat.{not-suc-le-zero, one-le-pow}
 use native.Mathlib.Decide.{decLt, ℕ-discrete}
 use native.Mathlib.Numerals.{add-one}
 use native.Mathlib.Omega.{arith}
 use lib.IntN.{ℤ, pos, negsuc}
 use lib.ListN.{getD}
 use lib.Bits.{bitOr, or-lt, or-add-and, and-le-l, and-le-r}
-use lib.Dec.{ltb}
-use lib.Signed.{mag, ltZ}
-use borrow.Author.Tests.{ltb-true, ltb-false, lt-ltb, le-ltb, le-leb, lt-leb}
+use lib.Dec.{ltb, leb}
+use lib.Signed.{mag, leZ}
+use borrow.Author.Tests.{lt-ltb, le-ltb, le-leb, lt-leb}
 use mir.Syntax.{w16}
 use mir.Val.{toZ, ofZ}
 use mir.Facts.{toZ-ofZ}
 use Rattle.general.proofs.TestLaws.{and-true}
+use Rattle.refusal.specs.declared.Refusal.the-variants.{Int8Range, Fp16Nan}
 use Rattle.elements.specs.Bytes.{byteOf}
-use Rattle.elements.specs.Values.{valueValid}
-use Rattle.elements.specs.Steps.{allValid}
-use Rattle.elements.proofs.ValueLaws.{Valid}
+use Rattle.elements.specs.Values.{bitPattern, valueValid}
+use Rattle.elements.specs.Steps.{allValid, valueRefusal, lowBits}
+use Rattle.elements.proofs.ValueLaws.{Valid, valueValid-int8, valueValid-fp16}
+use Rattle.elements.proofs.NanLaws.{isNan-low}
 
 -- ---- one element
 
-low-fault : (z : ℤ) → ltZ z (negsuc 127) ≡ true → valueValid 0 z ≡ false
-unfolding valueValid
-low-fault (pos n) e = cc
-low-fault (negsuc n) e = rw (lt-leb n 127 (ltb-true 127 n e))
+pub read-back : (z : ℤ) → mag z < 2 ^ 15 → toZ w16 (ofZ w16 z) ≡ z
+read-back z m = toZ-ofZ (record { sfits = m })
 
-high-fault : (z : ℤ) → ltZ (pos 127) z ≡ true → valueValid 0 z ≡ false
-unfolding valueValid
-high-fault (pos n) e = lt-leb n 127 (ltb-true 127 n e)
-high-fault (negsuc n) e = cc
-
-no-fault : (z : ℤ) → ltZ z (negsuc 127) ≡ false → ltZ (pos 127) z ≡ false → valueValid 0 z ≡ true
-unfolding valueValid
-no-fault (pos n) e f = le-leb n 127 (ltb-false 127 n f)
-no-fault (negsuc n) e f = rw (le-leb n 127 (ltb-false 127 n e))
-
--- an element as the code reads it
-module _ (z : ℤ) (m : mag z < 2 ^ 15) where
-  pub read-back : toZ w16 (ofZ w16 z) ≡ z
-  read-back = toZ-ofZ (record { sfits = m })
-
-  pub valid-low : ltZ (toZ w16 (ofZ w16 z)) (negsuc 127) ≡ true → valueValid 0 z ≡ false
-  valid-low e = low-fault z (sym (ap (λ (v : ℤ). ltZ v (negsuc 127)) read-back) ∙ e)
-
-  pub valid-high : ltZ (pos 127) (toZ w16 (ofZ w16 z)) ≡ true → valueValid 0 z ≡ false
-  valid-high e = high-fault z (sym (ap (λ (v : ℤ). ltZ (pos 127) v) read-back) ∙ e)
-
-  pub valid-between : ltZ (toZ w16 (ofZ w16 z)) (negsuc 127) ≡ false → ltZ (pos 127) (toZ w16 (ofZ w16 z)) ≡ false → valueValid 0 z ≡ true
-  valid-between e f = no-fault z (sym (ap (λ (v : ℤ). ltZ v (negsuc 127)) read-back) ∙ e) (sym (ap (λ (v : ℤ). ltZ (pos 127) v) read-back) ∙ f)
-
--- the bits of an element 128 higher, by its word w
-pub raised-valid : (z : ℤ) (w : ℕ) → mag z < 32768 → w ≡ byteOf z 0 + 256 * byteOf z 1 → ltb ((w + 128) % 65536) 256 ≡ valueValid 0 z
-unfolding byteOf valueValid
-raised-valid (pos n) w m e = elim (decLt n 128) [
+-- int8: the bits of an element 128 higher, by its word w
+int8-number : (z : ℤ) (w : ℕ) → mag z < 32768 → w ≡ byteOf z 0 + 256 * byteOf z 1 → ltb ((w + 128) % 65536) 256 ≡ leZ (negsuc 127) z && leZ z (pos 127)
+unfolding byteOf
+int8-number (pos n) w m e = elim (decLt n 128) [
   | yes h ↦ rw (lt-ltb ((w + 128) % 65536) 256 (omega (arith, e)), le-leb n 127 (omega arith))
   | no h ↦ rw (le-ltb ((w + 128) % 65536) 256 (omega (arith, e)), lt-leb n 127 (omega arith))
 ]
-raised-valid (negsuc n) w m e = elim (decLt n 128) [
+int8-number (negsuc n) w m e = elim (decLt n 128) [
   | yes h ↦ rw (lt-ltb ((w + 128) % 65536) 256 (omega (arith, e)), le-leb n 127 (omega arith))
   | no h ↦ rw (le-ltb ((w + 128) % 65536) 256 (omega (arith, e)), lt-leb n 127 (omega arith))
 ]
+
+-- fp16: the bits of an element without the sign, 1023 higher
+fp16-number : (n : ℕ) → ltb (n + 1023) 32768 ≡ not (leb 31745 n)
+fp16-number n = elim (decLt n 31745) [
+  | yes h ↦ rw (lt-ltb (n + 1023) 32768 (omega arith), lt-leb 31745 n h)
+  | no h ↦ rw (le-ltb (n + 1023) 32768 (omega arith), le-leb 31745 n (omega arith))
+]
+
+pub raised-int8 : (p : ℕ) (z : ℤ) (w : ℕ) → w ≡ byteOf z 0 + 256 * byteOf z 1 → p ≡ 0 → mag z < 32768 → ltb ((w + 128) % 65536) (2 ^ lowBits p) ≡ valueValid p z
+unfolding lowBits
+raised-int8 p z w e k m = rw k (int8-number z w m e ∙ sym (valueValid-int8 z))
+
+pub raised-fp16 : (p : ℕ) (z : ℤ) (n : ℕ) → n ≡ bitPattern z % 32768 → (p ≡ 0 → ⊥) → (p ≡ 1 → ⊥) → ltb (n + 1023) (2 ^ lowBits p) ≡ valueValid p z
+unfolding lowBits
+raised-fp16 zero z n e f g = absurd (f refl)
+raised-fp16 (suc zero) z n e f g = absurd (g refl)
+raised-fp16 (suc (suc p)) z n e f g = rw e (fp16-number (bitPattern z % 32768) ∙ ap not (sym (isNan-low z)) ∙ sym (valueValid-fp16 p z))
+
+pub limit-int8 : (p : ℕ) → p ≡ 0 → 256 ≡ 2 ^ lowBits p
+unfolding lowBits
+limit-int8 p e = rw e
+
+pub limit-other : (p : ℕ) → (p ≡ 0 → ⊥) → 32768 ≡ 2 ^ lowBits p
+unfolding lowBits
+limit-other zero f = absurd (f refl)
+limit-other (suc p) f = refl
+
+pub refusal-int8 : (p : ℕ) → p ≡ 0 → valueRefusal p ≡ Int8Range
+unfolding valueRefusal
+refusal-int8 p e = rw e
+
+pub refusal-other : (p : ℕ) → (p ≡ 0 → ⊥) → valueRefusal p ≡ Fp16Nan
+unfolding valueRefusal
+refusal-other zero f = absurd (f refl)
+refusal-other (suc p) f = refl
 
 -- ---- the bits of two numbers
 
@@ -79,28 +92,28 @@ or-first a b = omega (arith, or-add-and a b, and-le-r a b)
 or-second : (a b : ℕ) → b ≤ bitOr a b
 or-second a b = omega (arith, or-add-and a b, and-le-l a b)
 
-pub or-below : (a b : ℕ) → ltb (bitOr a b) 256 ≡ ltb a 256 && ltb b 256
-or-below a b = elim (decLt a 256) [
-  | yes h ↦ elim (decLt b 256) [
-    | yes k ↦ rw (lt-ltb (bitOr a b) 256 (or-lt 8 a b h k), lt-ltb a 256 h, lt-ltb b 256 k)
-    | no k ↦ rw (le-ltb (bitOr a b) 256 (omega (arith, or-second a b)), lt-ltb a 256 h, le-ltb b 256 (omega arith))
+pub or-below : (a b k : ℕ) → ltb (bitOr a b) (2 ^ k) ≡ ltb a (2 ^ k) && ltb b (2 ^ k)
+or-below a b k = elim (decLt a (2 ^ k)) [
+  | yes h ↦ elim (decLt b (2 ^ k)) [
+    | yes l ↦ rw (lt-ltb (bitOr a b) (2 ^ k) (or-lt k a b h l), lt-ltb a (2 ^ k) h, lt-ltb b (2 ^ k) l)
+    | no l ↦ rw (le-ltb (bitOr a b) (2 ^ k) (omega (arith, or-second a b)), lt-ltb a (2 ^ k) h, le-ltb b (2 ^ k) (omega arith))
   ]
-  | no h ↦ rw (le-ltb (bitOr a b) 256 (omega (arith, or-first a b)), le-ltb a 256 (omega arith))
+  | no h ↦ rw (le-ltb (bitOr a b) (2 ^ k) (omega (arith, or-first a b)), le-ltb a (2 ^ k) (omega arith))
 ]
 
 -- ---- a pass over the first n elements
 
-pub allValid-none : (p : ℕ) (zs : List ℤ) → true ≡ allValid p zs 0
+pub allValid-none : (p : ℕ) (zs : List ℤ) → ltb 0 (2 ^ lowBits p) ≡ allValid p zs 0
 unfolding allValid
-allValid-none p zs = refl
+allValid-none p zs = lt-ltb 0 (2 ^ lowBits p) (one-le-pow (lowBits p) 2 (omega arith))
 
 -- one element more: s says that the first n are valid, t that the next one is
-pub allValid-next : (zs : List ℤ) (n : ℕ) (s t : Bool) (x : ℤ) → x ≡ getD zs n (pos 0) → s ≡ allValid 0 zs n → t ≡ valueValid 0 x → s && t ≡ allValid 0 zs (n + 1)
+pub allValid-next : (p : ℕ) (zs : List ℤ) (n : ℕ) (s t : Bool) (x : ℤ) → x ≡ getD zs n (pos 0) → s ≡ allValid p zs n → t ≡ valueValid p x → s && t ≡ allValid p zs (n + 1)
 unfolding allValid
-allValid-next zs n s t x r e h =
+allValid-next p zs n s t x r e h =
     ap (λ (b : Bool). b && t) e
-    ∙ ap (λ (b : Bool). allValid 0 zs n && b) (h ∙ ap (λ (z : ℤ). valueValid 0 z) r)
-    ∙ ap (λ (k : ℕ). allValid 0 zs k) (sym (add-one n))
+    ∙ ap (λ (b : Bool). allValid p zs n && b) (h ∙ ap (λ (z : ℤ). valueValid p z) r)
+    ∙ ap (λ (k : ℕ). allValid p zs k) (sym (add-one n))
 
 pub allValid-at : (p : ℕ) (zs : List ℤ) (n : ℕ) → allValid p zs n ≡ true → Valid p zs n
 unfolding allValid

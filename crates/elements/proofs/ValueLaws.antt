@@ -1,53 +1,85 @@
--- Laws of the check of values (specs/Values.antt). By induction on the list of elements. Assumes nothing.
---     valueValid-fits, fits-valueValid         an element that is valid is a number of the precision's bytes, and back
---     valueValid-other, valueChecks-other      a precision other than int8 takes every element
+-- Laws of the check of values (specs/Values.antt). By cases on the precision, and by induction on the list of elements. Assumes nothing.
+--     valueValid-int8, valueValid-fp16         what int8 and fp16 take
+--     valueValid-int16, valueChecks-int16      int16 takes every element
+--     valueValid-fits, fits-valueValid         an element that is valid is a number of the precision's bytes, and back but for fp16
+--     valueCheck-is                            the check of one element as a test and its refusal
 --     Valid                                    each of the first n elements is valid
 --     valueChecks-valid, valueChecks-least     what an accepted list, and a refused one, say of its elements
 --     valueChecks-all, valueChecks-first       and back
 --     precisionChecks-unknown, precisionChecks-known     an unknown code is refused first; with a known one the elements decide
 use Prim.Native.Nat.{ℕ, zero, suc, _+_, _/_, _^_, _<_, zero-le, suc-le-suc}
-use mathlib.Core.Path.{_≡_, refl, ap, _∙_, subst}
+use mathlib.Core.Path.{_≡_, refl, sym, ap, _∙_, subst}
 use mathlib.Core.Logic.{_⊎_, inl, inr, ⊎-elim}
-use mathlib.Core.Bool.{Bool, true, false}
+use mathlib.Core.Bool.{Bool, true, false, not, _&&_}
 use mathlib.Core.List.{List, [], _∷_}
 use native.Mathlib.Nat.{le-of-suc-le-suc, not-suc-le-zero}
 use native.Mathlib.Omega.{arith}
 use lib.IntN.{ℤ, pos, negsuc}
 use lib.ListN.{length, getD, replicate, length-replicate, getD-replicate}
-use lib.Signed.{mag}
+use lib.Signed.{mag, leZ}
 use borrow.Author.Tests.{leb-true, le-leb, lt-ltb, le-ltb}
 use Rattle.general.proofs.TestLaws.{and-left, and-both}
 use Rattle.refusal.specs.declared.Refusal.{Refusal}
-use Rattle.refusal.specs.declared.Refusal.the-variants.{Precision, Int8Range}
+use Rattle.refusal.specs.declared.Refusal.the-variants.{Precision}
 use Rattle.refusal.specs.declared.Answer.{Answer}
 use Rattle.refusal.specs.declared.Answer.the-variants.{Accepted, Refused}
-use Rattle.refusal.specs.Checks.{inOrder}
-use Rattle.refusal.proofs.CheckLaws.{inOrder-nil, inOrder-next, inOrder-stop, inOrder-held, inOrder-rest}
-use Rattle.elements.specs.Bytes.{elementBytes}
-use Rattle.elements.specs.Values.{valueValid, valueCheck, valueChecksFrom, valueChecks, precisionChecks}
+use Rattle.refusal.specs.Checks.{requireAt, inOrder, leaves}
+use Rattle.refusal.proofs.CheckLaws.{requireAt-true, requireAt-false, inOrder-nil, inOrder-accepted, inOrder-first, inOrder-next, inOrder-stop, inOrder-held, inOrder-rest}
+use Rattle.elements.specs.Bytes.{elementBytes, byteOf}
+use Rattle.elements.specs.Values.{bitPattern, isNan, valueCheck, valueValid, valueChecksFrom, valueChecks, precisionChecks}
+use Rattle.elements.specs.Steps.{valueRefusal}
 
 -- ---- one element
 
-valid-mag : (z : ℤ) → valueValid 0 z ≡ true → mag z < 128
-unfolding valueValid
+-- a check is passed just where its test holds
+passes : (i : ℕ) (r : Refusal) (b : Bool) → leaves (requireAt i r b) true false ≡ b
+unfolding requireAt leaves
+passes i r true = refl
+passes i r false = refl
+
+pub valueValid-int8 : (z : ℤ) → valueValid 0 z ≡ leZ (negsuc 127) z && leZ z (pos 127)
+unfolding valueValid valueCheck
+valueValid-int8 z = passes 0 _ _
+
+pub valueValid-int16 : (z : ℤ) → valueValid 1 z ≡ true
+unfolding valueValid valueCheck leaves
+valueValid-int16 z = refl
+
+pub valueValid-fp16 : (p : ℕ) (z : ℤ) → valueValid (suc (suc p)) z ≡ not (isNan z)
+unfolding valueValid valueCheck
+valueValid-fp16 p z = passes 0 _ _
+
+pub valueCheck-is : (p i : ℕ) (z : ℤ) → valueCheck p i z ≡ requireAt i (valueRefusal p) (valueValid p z)
+unfolding valueCheck valueRefusal
+valueCheck-is zero i z = ap (λ (b : Bool). requireAt i (valueRefusal 0) b) (sym (valueValid-int8 z))
+valueCheck-is (suc zero) i z = sym (requireAt-true i (valueRefusal 1) (valueValid-int16 z))
+valueCheck-is (suc (suc p)) i z = ap (λ (b : Bool). requireAt i (valueRefusal 2) b) (sym (valueValid-fp16 p z))
+
+valid-mag : (z : ℤ) → leZ (negsuc 127) z && leZ z (pos 127) ≡ true → mag z < 128
 valid-mag (pos n) e = omega (arith, leb-true n 127 e)
 valid-mag (negsuc n) e = omega (arith, leb-true n 127 (and-left _ _ e))
 
 pub valueValid-fits : (p : ℕ) (z : ℤ) → valueValid p z ≡ true → mag z < 32768 → mag z < 256 ^ elementBytes p / 2
 unfolding elementBytes
-valueValid-fits zero z e m = valid-mag z e
+valueValid-fits zero z e m = valid-mag z (sym (valueValid-int8 z) ∙ e)
 valueValid-fits (suc p) z e m = m
 
-pub fits-valueValid : (p : ℕ) (z : ℤ) → mag z < 256 ^ elementBytes p / 2 → valueValid p z ≡ true
-unfolding elementBytes valueValid
-fits-valueValid zero (pos n) h = le-leb n 127 (omega (arith, h))
-fits-valueValid zero (negsuc n) h = and-both (le-leb n 127 (omega (arith, h))) refl
-fits-valueValid (suc p) z h = refl
+mag-valid : (z : ℤ) → mag z < 128 → leZ (negsuc 127) z && leZ z (pos 127) ≡ true
+mag-valid (pos n) h = le-leb n 127 (omega arith)
+mag-valid (negsuc n) h = and-both (le-leb n 127 (omega arith)) refl
 
-pub valueValid-other : (p : ℕ) (z : ℤ) → (p ≡ 0 → ⊥) → valueValid p z ≡ true
-unfolding valueValid
-valueValid-other zero z f = absurd (f refl)
-valueValid-other (suc p) z f = refl
+pub fits-valueValid : (p : ℕ) (z : ℤ) → p < 2 → mag z < 256 ^ elementBytes p / 2 → valueValid p z ≡ true
+unfolding elementBytes
+fits-valueValid zero z k h = valueValid-int8 z ∙ mag-valid z h
+fits-valueValid (suc zero) z k h = valueValid-int16 z
+fits-valueValid (suc (suc p)) z k h = absurd (omega arith)
+
+-- every precision takes 0
+zero-valid : (p : ℕ) → valueValid p (pos 0) ≡ true
+unfolding isNan bitPattern byteOf
+zero-valid zero = valueValid-int8 (pos 0)
+zero-valid (suc zero) = valueValid-int16 (pos 0)
+zero-valid (suc (suc p)) = valueValid-fp16 p (pos 0)
 
 -- ---- a list of elements, the first at index k
 
@@ -55,27 +87,43 @@ valueValid-other (suc p) z f = refl
 abbrev pub Valid : ℕ → List ℤ → ℕ → Type 0
 Valid p zs n = (j : ℕ) → j < n → valueValid p (getD zs j (pos 0)) ≡ true
 
+-- the check of the first element, as it is answered
+module _ (p k : ℕ) (z : ℤ) (rest : List Answer) where
+  first-check : inOrder (valueCheck p k z ∷ rest) ≡ inOrder (requireAt k (valueRefusal p) (valueValid p z) ∷ rest)
+  first-check = ap (λ (a : Answer). inOrder (a ∷ rest)) (valueCheck-is p k z)
+
+  first-held : inOrder (valueCheck p k z ∷ rest) ≡ Accepted → valueValid p z ≡ true
+  first-held e = inOrder-held k (valueRefusal p) (valueValid p z) rest (sym first-check ∙ e)
+
+  first-rest : inOrder (valueCheck p k z ∷ rest) ≡ Accepted → inOrder rest ≡ Accepted
+  first-rest e = inOrder-rest k (valueRefusal p) (valueValid p z) rest (sym first-check ∙ e)
+
+  first-next : valueValid p z ≡ true → inOrder (valueCheck p k z ∷ rest) ≡ inOrder rest
+  first-next e = first-check ∙ inOrder-next k (valueRefusal p) rest e
+
+  first-stop : valueValid p z ≡ false → inOrder (valueCheck p k z ∷ rest) ≡ Refused (valueRefusal p) k
+  first-stop e = first-check ∙ inOrder-stop k (valueRefusal p) rest e
+
 valid-from : (p k : ℕ) (zs : List ℤ) → inOrder (valueChecksFrom p k zs) ≡ Accepted → Valid p zs (length zs)
-unfolding valueChecksFrom valueCheck
+unfolding valueChecksFrom
 valid-from p k [] e i h = absurd (not-suc-le-zero h)
-valid-from p k (z ∷ zs) e zero h = inOrder-held k Int8Range (valueValid p z) _ e
-valid-from p k (z ∷ zs) e (suc i) h = valid-from p (suc k) zs (inOrder-rest k Int8Range (valueValid p z) _ e) i (le-of-suc-le-suc h)
+valid-from p k (z ∷ zs) e zero h = first-held p k z _ e
+valid-from p k (z ∷ zs) e (suc i) h = valid-from p (suc k) zs (first-rest p k z _ e) i (le-of-suc-le-suc h)
 
 all-from : (p k : ℕ) (zs : List ℤ) → Valid p zs (length zs) → inOrder (valueChecksFrom p k zs) ≡ Accepted
-unfolding valueChecksFrom valueCheck
+unfolding valueChecksFrom
 all-from p k [] h = inOrder-nil
-all-from p k (z ∷ zs) h =
-    inOrder-next k Int8Range _ (h zero (suc-le-suc zero-le)) ∙ all-from p (suc k) zs (λ i b. h (suc i) (suc-le-suc b))
+all-from p k (z ∷ zs) h = first-next p k z _ (h zero (suc-le-suc zero-le)) ∙ all-from p (suc k) zs (λ i b. h (suc i) (suc-le-suc b))
 
 first-from : (p k : ℕ) (zs : List ℤ) (i : ℕ)
-    → i < length zs → Valid p zs i → valueValid p (getD zs i (pos 0)) ≡ false → inOrder (valueChecksFrom p k zs) ≡ Refused Int8Range (k + i)
-unfolding valueChecksFrom valueCheck
+    → i < length zs → Valid p zs i → valueValid p (getD zs i (pos 0)) ≡ false → inOrder (valueChecksFrom p k zs) ≡ Refused (valueRefusal p) (k + i)
+unfolding valueChecksFrom
 first-from p k [] i h before e = absurd (not-suc-le-zero h)
-first-from p k (z ∷ zs) zero h before e = inOrder-stop k Int8Range _ e ∙ ap (λ (n : ℕ). Refused Int8Range n) (omega arith)
+first-from p k (z ∷ zs) zero h before e = first-stop p k z _ e ∙ ap (λ (n : ℕ). Refused (valueRefusal p) n) (omega arith)
 first-from p k (z ∷ zs) (suc i) h before e =
-    inOrder-next k Int8Range _ (before zero (suc-le-suc zero-le))
+    first-next p k z _ (before zero (suc-le-suc zero-le))
     ∙ first-from p (suc k) zs i (le-of-suc-le-suc h) (λ j b. before (suc j) (suc-le-suc b)) e
-    ∙ ap (λ (n : ℕ). Refused Int8Range n) (omega arith)
+    ∙ ap (λ (n : ℕ). Refused (valueRefusal p) n) (omega arith)
 
 -- element i is the first at fault
 abbrev Faulty : ℕ → List ℤ → ℕ → Type 0
@@ -100,19 +148,17 @@ look p (z ∷ zs) = here (valueValid p z) refl (look p zs)
 both-ways : {a : Answer} {r : Refusal} {i : ℕ} {X : Type 0} → a ≡ Accepted → a ≡ Refused r i → X
 both-ways e f = let z : _≡_ {A = ℕ} 0 1 = cc in absurd (omega arith)
 
--- an answer has one refusal
-same-fault : (p : ℕ) (zs : List ℤ) (r : Refusal) (i m : ℕ) → Faulty p zs m → {a : Answer} → a ≡ Refused Int8Range m → a ≡ Refused r i
-    → (i < length zs) × (r ≡ Int8Range) × (valueValid p (getD zs i (pos 0)) ≡ false) × Valid p zs i
+-- a list refused is refused as its first element at fault
+same-fault : (p : ℕ) (zs : List ℤ) (r : Refusal) (i m : ℕ) → Faulty p zs m → {a : Answer} → a ≡ Refused (valueRefusal p) m → a ≡ Refused r i
+    → (i < length zs) × (valueCheck p i (getD zs i (pos 0)) ≡ Refused r i) × ((j : ℕ) → j < i → valueCheck p j (getD zs j (pos 0)) ≡ Accepted)
 same-fault p zs r i m w e f =
     let same : m ≡ i = cc in
-    let v : Faulty p zs i = subst (λ (n : ℕ). Faulty p zs n) same w in
-    (v .0, (cc), v .1, v .2)
-
--- every precision takes 0
-zero-valid : (p : ℕ) → valueValid p (pos 0) ≡ true
-unfolding valueValid
-zero-valid zero = refl
-zero-valid (suc p) = refl
+    let number : valueRefusal p ≡ r = cc in
+    let v : Faulty p zs i = subst (λ (n : ℕ). Faulty p zs n) same w in (
+      v .0,
+      valueCheck-is p i (getD zs i (pos 0)) ∙ requireAt-false i (valueRefusal p) (v .1) ∙ ap (λ (x : Refusal). Refused x i) number,
+      λ j h. valueCheck-is p j (getD zs j (pos 0)) ∙ requireAt-true j (valueRefusal p) (v .2 j h),
+    )
 
 -- ---- the check of all elements
 
@@ -126,20 +172,17 @@ module _ (p : ℕ) (zs : List ℤ) where
   valueChecks-all h = all-from p zero zs h
 
   pub valueChecks-first : (i : ℕ)
-      → i < length zs → Valid p zs i → valueValid p (getD zs i (pos 0)) ≡ false → inOrder (valueChecks p zs) ≡ Refused Int8Range i
+      → i < length zs → Valid p zs i → valueValid p (getD zs i (pos 0)) ≡ false → inOrder (valueChecks p zs) ≡ Refused (valueRefusal p) i
   unfolding valueChecks
-  valueChecks-first i h before e = first-from p zero zs i h before e ∙ ap (λ (n : ℕ). Refused Int8Range n) (omega arith)
+  valueChecks-first i h before e = first-from p zero zs i h before e ∙ ap (λ (n : ℕ). Refused (valueRefusal p) n) (omega arith)
 
   pub valueChecks-least : (r : Refusal) (i : ℕ) → inOrder (valueChecks p zs) ≡ Refused r i
-      → (i < length zs) × (r ≡ Int8Range) × (valueValid p (getD zs i (pos 0)) ≡ false) × Valid p zs i
+      → (i < length zs) × (valueCheck p i (getD zs i (pos 0)) ≡ Refused r i) × ((j : ℕ) → j < i → valueCheck p j (getD zs j (pos 0)) ≡ Accepted)
   valueChecks-least r i e =
       ⊎-elim
       (λ all. both-ways (valueChecks-all all) e)
       (λ w. same-fault p zs r i (w .0) (w .1) (valueChecks-first (w .0) (w .1 .0) (w .1 .2) (w .1 .1)) e)
       (look p zs)
-
-  pub valueChecks-other : (p ≡ 0 → ⊥) → inOrder (valueChecks p zs) ≡ Accepted
-  valueChecks-other f = valueChecks-all (λ i h. valueValid-other p _ f)
 
   pub precisionChecks-unknown : 2 < p → inOrder (precisionChecks p zs) ≡ Refused Precision 0
   unfolding precisionChecks
@@ -148,6 +191,9 @@ module _ (p : ℕ) (zs : List ℤ) where
   pub precisionChecks-known : p < 3 → inOrder (precisionChecks p zs) ≡ inOrder (valueChecks p zs)
   unfolding precisionChecks
   precisionChecks-known h = inOrder-next 0 Precision _ (lt-ltb p 3 h)
+
+pub valueChecks-int16 : (zs : List ℤ) → inOrder (valueChecks 1 zs) ≡ Accepted
+valueChecks-int16 zs = valueChecks-all 1 zs (λ i h. valueValid-int16 (getD zs i (pos 0)))
 
 -- zeros pass
 pub valueChecks-zeros : (p n : ℕ) → inOrder (valueChecks p (replicate n (pos 0))) ≡ Accepted

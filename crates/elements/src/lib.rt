@@ -1,14 +1,14 @@
-// Elements: their bytes, and the values that a precision takes (scope paper, "Cells and cubes"; "Refusal numbers", 7).
+// Elements: their bytes, and the values that a precision takes (scope paper, "Cells and cubes"; "Refusal numbers", 7; change request K7, 26).
 ghost use mathlib.Core.Path.{_≡_};
 ghost use mathlib.Core.Bool.{false, _&&_};
-ghost use Prim.Native.Nat.{_+_, _*_, _/_, _%_, _<_, _≤_};
+ghost use Prim.Native.Nat.{ℕ, _+_, _*_, _/_, _%_, _^_, _<_, _≤_};
 ghost use lib.Dec.{ltb};
 ghost use lib.IntN.{pos, _-ℤ_};
 ghost use lib.ListN.{length};
 ghost use Rattle.refusal.specs.Checks.{inOrder};
 ghost use Rattle.elements.specs.Bytes.{elementBytes, byteOf, signed};
-ghost use Rattle.elements.specs.Values.{valueValid, valueChecks, precisionChecks};
-ghost use Rattle.elements.specs.Steps.{allValid};
+ghost use Rattle.elements.specs.Values.{bitPattern, valueValid, valueChecks, precisionChecks};
+ghost use Rattle.elements.specs.Steps.{allValid, valueRefusal, lowBits};
 use refusal::Answer;
 use refusal::Refusal;
 
@@ -70,46 +70,63 @@ pub fn from_bytes(low: u8, high: u8) -> i16
     less((word + 32768) % 65536, 32768)
 }
 
-// The bits of an element 128 higher: a number below 256 just where the element lies in -128..127.
-fn raised(x: i16) -> u16
-    ensures { λ r. ⌜ ltb r 256 ≡ valueValid 0 x ⌝ }
+// The bits of an fp16 element below its sign.
+fn magnitude(x: i16) -> u16
+    ensures { λ r. ⌜ r ≡ bitPattern x % 32768 ⌝ }
 {
-    ((word(x) as u32 + 128) % 65536) as u16
+    word(x) % 32768
 }
 
-// The bits of both numbers: a number below 256 just where both are.
+// A number of an element that has no bit above the low ones just where the precision takes it: for int8 its bits 128 higher, for fp16 those below
+// its sign 1023 higher. int16 takes every element.
+fn raised(precision: u32, x: i16) -> u16
+    requires { ⌜ (precision ≡ 1 → ⊥) ⌝ }
+    ensures { λ r. ⌜ ltb r (2 ^ lowBits precision) ≡ valueValid precision x ⌝ }
+{
+    if precision == 0 {
+        return ((word(x) as u32 + 128) % 65536) as u16;
+    }
+    magnitude(x) + 1023
+}
+
+// The least number with a bit above the low ones.
+fn limit(precision: u32) -> u16
+    ensures { λ r. ⌜ r ≡ 2 ^ lowBits precision ⌝ }
+{
+    if precision == 0 { 256 } else { 32768 }
+}
+
+// The bits of both numbers: no bit above the low ones just where neither has one.
 fn either(a: u16, b: u16) -> u16
-    ensures { λ r. ⌜ ltb r 256 ≡ ltb a 256 && ltb b 256 ⌝ }
+    ensures { λ r. ⌜ ((k : ℕ) → ltb r (2 ^ k) ≡ ltb a (2 ^ k) && ltb b (2 ^ k)) ⌝ }
 {
     a | b
 }
 
-// Whether every element lies in -128..127: no element 128 higher has a bit above the low eight. One pass without an early exit.
-fn all_int8(elements: &[i16]) -> bool
-    ensures { λ r. ⌜ r ≡ allValid 0 (now (elements .entry)) (length (now (elements .entry))) ⌝ }
+// Whether a precision takes every element: the bits of all their numbers together. One pass without an early exit.
+fn all_taken(precision: u32, elements: &[i16]) -> bool
+    requires { ⌜ (precision ≡ 1 → ⊥) ⌝ }
+    ensures { λ r. ⌜ r ≡ allValid precision (now (elements .entry)) (length (now (elements .entry))) ⌝ }
 {
     let mut seen: u16 = 0;
     let mut i: usize = 0;
     while i < elements.len() {
         let x = elements[i];
-        seen = either(seen, raised(x));
+        seen = either(seen, raised(precision, x));
         i += 1;
     }
-    seen < 256
+    seen < limit(precision)
 }
 
-// The index of the first element outside -128..127, of which there is one.
-fn first_outside(elements: &[i16]) -> usize
-    requires { ⌜ allValid 0 (now elements) (length (now elements)) ≡ false ⌝ }
-    ensures { λ r. ⌜ inOrder (valueChecks 0 (now (elements .entry))) ≡ Answer.Refused Refusal.Int8Range r ⌝ }
+// The index of the first element that a precision does not take, of which there is one.
+fn first_refused(precision: u32, elements: &[i16]) -> usize
+    requires { ⌜ (precision ≡ 1 → ⊥) × (allValid precision (now elements) (length (now elements)) ≡ false) ⌝ }
+    ensures { λ r. ⌜ inOrder (valueChecks precision (now (elements .entry))) ≡ Answer.Refused (valueRefusal precision) r ⌝ }
 {
     let mut at: usize = 0;
     while at < elements.len() {
         let x = elements[at];
-        if x < -128 {
-            return at;
-        }
-        if 127 < x {
+        if limit(precision) <= raised(precision, x) {
             return at;
         }
         at += 1;
@@ -117,19 +134,22 @@ fn first_outside(elements: &[i16]) -> usize
     at
 }
 
-// Whether a precision takes every element; a refusal of one has the least index at fault. Checks 2, 7.
+// Whether a precision takes every element; a refusal of one has the least index at fault. Checks 2, then 7 or 26.
 pub fn check_values(precision: u32, elements: &[i16]) -> Answer
     ensures { λ r. ⌜ r ≡ inOrder (precisionChecks precision (now (elements .entry))) ⌝ }
 {
     if 2 < precision {
         return Answer::Refused(Refusal::Precision, 0);
     }
-    if precision != 0 {
+    if precision == 1 {
         return Answer::Accepted;
     }
-    if all_int8(elements) {
+    if all_taken(precision, elements) {
         return Answer::Accepted;
     }
-    let at = first_outside(elements);
-    Answer::Refused(Refusal::Int8Range, at)
+    let at = first_refused(precision, elements);
+    if precision == 0 {
+        return Answer::Refused(Refusal::Int8Range, at);
+    }
+    Answer::Refused(Refusal::Fp16Nan, at)
 }

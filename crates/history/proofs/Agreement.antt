@@ -13,7 +13,6 @@ use lib.Signed.{mag}
 use Rattle.refusal.specs.declared.Answer.{Answer}
 use Rattle.refusal.specs.declared.Answer.the-variants.{Accepted, Refused}
 use Rattle.refusal.specs.Checks.{inOrder, leaves}
-use Rattle.elements.proofs.ValueLaws.{valueValid-fits, valueChecks-valid}
 use Rattle.layout.specs.declared.CubeLayout.{CubeLayout}
 use Rattle.layout.specs.declared.ElementBox.{ElementBox}
 use Rattle.layout.specs.Geometry.{elementCount}
@@ -36,7 +35,7 @@ use Rattle.parlour.proofs.ElementLaws.{painted-sixteen}
 use Rattle.parlour.proofs.CallLaws.{paint-as-edit}
 use Rattle.history.specs.Program.{Call, place, edit, read, release, paint, none, held, replyOf, lends, SixteenBit, State, stateOf, step}
 use Rattle.history.specs.Model.{boxWritten, boxRead, Plain, named, plainAnswer, plainStep}
-use Rattle.history.proofs.TensorLaws.{boxWritten-length, packed-boxWritten, Fits, boxWritten-fits, packed-boxRead, zeros-at}
+use Rattle.history.proofs.TensorLaws.{boxWritten-length, packed-boxWritten, Fits, checked-fits, boxWritten-fits, packed-boxRead, zeros-at}
 use Rattle.history.proofs.TableLaws.{placed-layout, placed-slots, released-layout, released-slots}
 use Rattle.history.proofs.BufferLaws.{AsEdit, written, release-as}
 
@@ -122,12 +121,11 @@ module _ (q : CubeLayout) (before : List ℕ) where
           let box = regionBox (theirs n id) b in
           let v = edit-accepted (theirs n id) b xs (length before) (e refl) in
           let d = v .reads .admitted in
-          let own : Fits q xs = record { fit = λ i h. valueValid-fits (q .precision) (getD xs i (pos 0)) (valueChecks-valid (q .precision) xs (v .values) i h) (sixteen .each i) } in
           record {
             layout = same-layout;
             slots = same-slots;
             count = boxWritten-length q box xs (m .raw) ∙ a .count;
-            fits = boxWritten-fits q box xs (m .raw) (d .count) own (a .fits);
+            fits = boxWritten-fits q box xs (m .raw) (d .count) (checked-fits q xs sixteen (v .values)) (a .fits);
             bytes = same-buffer ∙ sym (packed-boxWritten q box xs (m .raw) (a .count) (d .layout) before);
           }
       write-agrees (Refused r i) e same-layout same-slots same-buffer =

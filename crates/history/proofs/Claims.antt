@@ -1,4 +1,4 @@
--- The claims about every list of calls (scope paper, "The plain picture"; demand 3; change requests K1, K3, K5). `program` folds the steps that `begin`, `place`,
+-- The claims about every list of calls (scope paper, "The plain picture"; demand 3; change requests K1, K3, K5, K7). `program` folds the steps that `begin`, `place`,
 -- `edit`, `read`, `release` and `paint` of `history_calls` promise, and these do nothing but call `pack`, `empty`, `place`, `edit`, `read`, `release` and `paint`;
 -- `model` has no buffer and no table of the program.
 -- Premises: packing was accepted; lent elements are 16-bit numbers, as in every slice of i16. Lent pixels are bytes, as in every slice of u8, but nothing is
@@ -6,11 +6,12 @@
 use Prim.Native.Nat.{ℕ, _+_, _<_}
 use mathlib.Core.Path.{_≡_}
 use mathlib.Core.Logic.{_≢_}
-use mathlib.Core.Bool.{true}
+use mathlib.Core.Bool.{true, false}
 use mathlib.Core.List.{List, _∷_, map, _++_}
 use lib.ListN.{length, getD}
-use lib.IntN.{ℤ}
+use lib.IntN.{ℤ, pos}
 use Rattle.refusal.specs.declared.Answer.the-variants.{Accepted}
+use Rattle.elements.specs.Values.{isNan}
 use Rattle.layout.specs.declared.CubeLayout.{CubeLayout}
 use Rattle.layout.specs.declared.ElementBox.{ElementBox}
 use Rattle.layout.specs.Geometry.{sizeOf, elementPosition}
@@ -27,6 +28,7 @@ use Rattle.history.specs.Program.{Call, read, release, SixteenBit, Lends
 use Rattle.history.specs.Writes.{slotOfCall, writesElement, Unwritten, ReadsZero}
 use Rattle.history.specs.Model.{model, modelTo, shown, given}
 use Rattle.history.proofs.Simulation as simulation
+use Rattle.history.proofs.Nans as nans
 use Rattle.history.proofs.Apart as apart
 use Rattle.history.proofs.BufferLaws as buffers
 use Rattle.history.proofs.Separation as separation
@@ -42,6 +44,15 @@ module _ (q : CubeLayout) (raw : List ℤ) (before : List ℕ) (accepted : packA
     -- at every moment packing the model's raw tensor is accepted
     pub still-packs : packAnswer q (modelTo q (length before) (given raw) calls .raw) (length before) ≡ Accepted
     still-packs = simulation.packs-at q raw before accepted sixteen calls lent
+
+    -- at every moment no NaN is in the raw tensor of an fp16 model: the packing refuses one, and no accepted call puts one in; a missing element counts as 0
+    pub no-nan : q .precision ≡ 2 → (i : ℕ) → isNan (getD (modelTo q (length before) (given raw) calls .raw) i (pos 0)) ≡ false
+    no-nan = nans.no-nan q raw before accepted sixteen calls lent
+
+    -- so an accepted read of an fp16 cube gives none, at every moment
+    pub no-nan-read : q .precision ≡ 2 → (n id : ℕ) (b : ElementBox) (ys : List ℤ) → step (moment q raw before calls) (read n id b ys) .reply .answer ≡ Accepted
+        → (i : ℕ) → isNan (getD (step (moment q raw before calls) (read n id b ys) .elements) i (pos 0)) ≡ false
+    no-nan-read = nans.no-nan-read q raw before accepted sixteen calls lent
 
     -- at every moment the slots are the model's
     pub slots-are : slotsAt q raw before calls ≡ modelTo q (length before) (given raw) calls .slots

@@ -1,17 +1,18 @@
--- The two lists to follow by hand, computed: their packings are accepted, and the answers, the elements read and the bytes changed are these; and what the
+-- The three lists to follow by hand, computed: their packings are accepted, and the answers, the elements read and the bytes changed are these; and what the
 -- plain picture gives for them. Assumes nothing.
 use Prim.Native.Nat.{ℕ}
 use mathlib.Core.Path.{_≡_, refl}
 use mathlib.Core.List.{List, [], _∷_, map}
 use lib.ListN.{length, getD, set}
 use lib.IntN.{ℤ, pos, negsuc}
-use Rattle.refusal.specs.declared.Answer.the-variants.{Accepted}
+use Rattle.refusal.specs.declared.Answer.the-variants.{Accepted, Refused}
+use Rattle.refusal.specs.declared.Refusal.the-variants.{Fp16Nan}
 use Rattle.refusal.specs.Codes.{answerCode, faultIndex}
 use Rattle.refusal.specs.Sizes.{sizeValid}
 use Rattle.refusal.specs.Checks.{requireAt, inOrder, leaves}
 use Rattle.elements.specs.Bytes.{elementBytes, byteOf, wordAt, signed, elementAt}
 use Rattle.elements.specs.Lists.{remadeFrom, remade, tabulateFrom, tabulate}
-use Rattle.elements.specs.Values.{valueValid, valueCheck, valueChecksFrom, valueChecks}
+use Rattle.elements.specs.Values.{bitPattern, isNan, valueCheck, valueChecksFrom, valueChecks}
 use Rattle.layout.specs.Geometry.{elementCount, rawIndex, surfaces, elementPosition, cubeExtent}
 use Rattle.layout.specs.Boxes.{boxCount, spanInside, spanHas, boxHas, boxIndex, channelAt, rowAt, columnAt}
 use Rattle.layout.specs.Rules.{sizesValid, wholeAtoms, stridesValid, layoutChecks, storageChecks, cubeChecks}
@@ -33,8 +34,9 @@ use Rattle.history.specs.Program.{none, held, Value, Shown, step, progra
 use Rattle.history.specs.Model.{PlainStep, boxWritten, boxRead, plainAnswer, plainStep, model, given}
 use Rattle.history.specs.Example.{layout, tensor, buffer, calls, shownOf}
 use Rattle.history.specs.Paintings as paintings
+use Rattle.history.specs.Floats as floats
 
--- what a list shows at call n; the first list, and that with paintings
+-- what a list shows at call n; the first list, that with paintings, and that of fp16
 abbrev shownAt : List Shown → ℕ → Shown
 shownAt l n = getD l n (record { reply = record { answer = Accepted; value = none }; elements = []; buffer = [] })
 
@@ -43,6 +45,9 @@ nth n = shownAt shownOf n
 
 abbrev painting : ℕ → Shown
 painting n = shownAt paintings.shownOf n
+
+abbrev float : ℕ → Shown
+float n = shownAt floats.shownOf n
 
 -- the answers to them
 abbrev answerCodes : List Shown → List ℕ
@@ -54,6 +59,9 @@ codes =
 
 abbrev paintingCodes : List ℕ
 paintingCodes = 0 ∷ 0 ∷ 29 ∷ 16 ∷ 30 ∷ 25 ∷ 9 ∷ 0 ∷ 0 ∷ 0 ∷ 0 ∷ 0 ∷ 0 ∷ 8 ∷ 0 ∷ 0 ∷ 0 ∷ 0 ∷ []
+
+abbrev floatCodes : List ℕ
+floatCodes = 0 ∷ 0 ∷ 26 ∷ 26 ∷ 6 ∷ 0 ∷ 0 ∷ 0 ∷ 0 ∷ []
 
 -- bytes after a call
 abbrev bytesAt : Shown → List ℕ → List ℕ
@@ -81,7 +89,8 @@ heldCounts = none ∷ held 2 ∷ none ∷ none ∷ held 2 ∷ []
 -- the packing; the answers, with the fault index of 7; reads before and after the release; and the bytes that the edits change, that a refused release leaves
 -- and that the accepted one clears. Of the list with paintings: the packing; the answers; what is read of the painted region, of the other, after the edit,
 -- after the release and of the region painted anew; how many components the paintings held, which the refused ones do not tell; and the bytes that refused
--- paintings leave, that the accepted one changes and that the release clears
+-- paintings leave, that the accepted one changes and that the release clears. Of the list of fp16: the packing, and one of NaN, which is refused at its index; the
+-- answers; what is read after the refused edits, and after the accepted one; and the bytes of both elements before and after it
 pub record Computed : Type 0 where
   pub packing : answerCode (packAnswer layout tensor (length buffer)) ≡ 0
   pub answers : answerCodes shownOf ≡ codes
@@ -107,15 +116,24 @@ pub record Computed : Type 0 where
   pub unpainted : paintedBytes 6 ≡ 1 ∷ 2 ∷ 3 ∷ 4 ∷ 5 ∷ 6 ∷ 7 ∷ 248 ∷ []
   pub painted : paintedBytes 7 ≡ 1 ∷ 2 ∷ 3 ∷ 4 ∷ 3 ∷ 253 ∷ 127 ∷ 128 ∷ []
   pub painting-cleared : paintedBytes 13 ≡ 1 ∷ 2 ∷ 3 ∷ 4 ∷ 0 ∷ 0 ∷ 0 ∷ 0 ∷ []
+  pub float-packed : packAnswer floats.layout floats.tensor (length floats.buffer) ∷ packAnswer floats.layout (pos 15360 ∷ negsuc 0 ∷ []) (length floats.buffer) ∷ [] ≡ Accepted ∷ Refused Fp16Nan 1 ∷ []
+  pub float-answers : answerCodes floats.shownOf ≡ floatCodes
+  pub float-read : float 5 .elements ∷ float 6 .elements ∷ float 8 .elements ∷ [] ≡ (pos 15360 ∷ []) ∷ (pos 31744 ∷ []) ∷ (negsuc 1023 ∷ []) ∷ []
+  pub float-refused : bytesAt (float 6) (0 ∷ 1 ∷ 32 ∷ 33 ∷ []) ≡ 0 ∷ 60 ∷ 0 ∷ 124 ∷ []
+  pub float-written : bytesAt (float 7) (0 ∷ 1 ∷ 32 ∷ 33 ∷ []) ≡ 0 ∷ 252 ∷ 0 ∷ 124 ∷ []
 
 -- the plain pictures of the same lists: of the first its answers; the raw tensor after each of the first two edits and after a refused one; what a read gives;
 -- and the raw tensor and the slots after the release, and what is read then. Of that with paintings its answers; the raw tensor after a refused painting, after
--- the accepted one, after the edit and after the release; what is read of the painted region; and the counts
+-- the accepted one, after the edit and after the release; what is read of the painted region; and the counts. Of that of fp16 its answers, and the raw tensor
+-- after the refused edits and after the accepted one
 abbrev plain : List PlainStep
 plain = model layout (length buffer) (given tensor) calls
 
 abbrev plainPaintings : List PlainStep
 plainPaintings = model paintings.layout (length paintings.buffer) (given paintings.tensor) paintings.calls
+
+abbrev plainFloats : List PlainStep
+plainFloats = model floats.layout (length floats.buffer) (given floats.tensor) floats.calls
 
 abbrev plainAt : List PlainStep → ℕ → PlainStep
 plainAt l n = getD l n (record { reply = record { answer = Accepted; value = none }; elements = []; state = given [] })
@@ -147,9 +165,12 @@ pub record Pictured : Type 0 where
   pub read-painted : plainPainting 8 .elements ≡ pixelElements
   pub painting-edited : plainPainting 10 .state .raw ≡ pos 1 ∷ pos 3 ∷ pos 2 ∷ pos 9 ∷ pos 3 ∷ pos 127 ∷ pos 4 ∷ negsuc 127 ∷ []
   pub painting-released : plainPainting 13 .state .raw ≡ pos 1 ∷ pos 0 ∷ pos 2 ∷ pos 0 ∷ pos 3 ∷ pos 0 ∷ pos 4 ∷ pos 0 ∷ []
+  pub float-answers : plainCodes plainFloats ≡ floatCodes
+  pub float-refused : plainAt plainFloats 6 .state .raw ≡ floats.tensor
+  pub float-edited : plainAt plainFloats 7 .state .raw ≡ negsuc 1023 ∷ pos 31744 ∷ []
 
 pub computed : Computed
-unfolding requireAt inOrder leaves elementBytes byteOf wordAt signed elementAt remadeFrom remade tabulateFrom tabulate valueValid valueCheck valueChecksFrom valueChecks elementCount rawIndex surfaces elementPosition cubeExtent boxCount spanInside spanHas boxHas boxIndex channelAt rowAt columnAt sizeValid sizesValid wholeAtoms stridesValid layoutChecks storageChecks cubeChecks surfaceOf rowOf columnOf byteInAtom inAtom atomOwner owner packedByte packed editedByte edited readElement boxElements packAnswer packBuffer slotOf slotsOf rectangleHas occupied anyFrom overlaps rectangleInside slotAt isFilled rectangleOf idOf placeChecks boxInRectangle slotChecks regionBoxChecks readChecks editChecks releaseChecks placeAnswer placeTable editAnswer editBuffer readAnswer readElements releaseAnswer releaseTable releaseBuffer saturate beyond formatTable formatIn formatOf kindValid pixelStrides settingChecks pixelPosition lowest highest quantizeChecks nearestOf nearest rounded quantized limited componentBytes componentValue componentAt component paintedElements total heldOne pixelHeld rowHeld heldCount kindTaken imageEnd fillsRectangle pictureChecks targetChecks paintChecks paintAnswer paintBuffer step program calls paintings.calls
+unfolding requireAt inOrder leaves elementBytes byteOf wordAt signed elementAt remadeFrom remade tabulateFrom tabulate bitPattern isNan valueCheck valueChecksFrom valueChecks elementCount rawIndex surfaces elementPosition cubeExtent boxCount spanInside spanHas boxHas boxIndex channelAt rowAt columnAt sizeValid sizesValid wholeAtoms stridesValid layoutChecks storageChecks cubeChecks surfaceOf rowOf columnOf byteInAtom inAtom atomOwner owner packedByte packed editedByte edited readElement boxElements packAnswer packBuffer slotOf slotsOf rectangleHas occupied anyFrom overlaps rectangleInside slotAt isFilled rectangleOf idOf placeChecks boxInRectangle slotChecks regionBoxChecks readChecks editChecks releaseChecks placeAnswer placeTable editAnswer editBuffer readAnswer readElements releaseAnswer releaseTable releaseBuffer saturate beyond formatTable formatIn formatOf kindValid pixelStrides settingChecks pixelPosition lowest highest quantizeChecks nearestOf nearest rounded quantized limited componentBytes componentValue componentAt component paintedElements total heldOne pixelHeld rowHeld heldCount kindTaken imageEnd fillsRectangle pictureChecks targetChecks paintChecks paintAnswer paintBuffer step program calls paintings.calls floats.calls
 computed =
     record {
       packing = refl;
@@ -176,10 +197,15 @@ computed =
       unpainted = refl;
       painted = refl;
       painting-cleared = refl;
+      float-packed = refl;
+      float-answers = refl;
+      float-read = refl;
+      float-refused = refl;
+      float-written = refl;
     }
 
 pub pictured : Pictured
-unfolding requireAt inOrder leaves elementBytes byteOf wordAt signed elementAt remadeFrom remade tabulateFrom tabulate valueValid valueCheck valueChecksFrom valueChecks elementCount rawIndex surfaces elementPosition cubeExtent boxCount spanInside spanHas boxHas boxIndex channelAt rowAt columnAt sizeValid sizesValid wholeAtoms stridesValid layoutChecks storageChecks cubeChecks surfaceOf rowOf columnOf byteInAtom inAtom atomOwner owner packedByte packed editedByte edited readElement boxElements packAnswer packBuffer slotOf slotsOf rectangleHas occupied anyFrom overlaps rectangleInside slotAt isFilled rectangleOf idOf placeChecks boxInRectangle slotChecks regionBoxChecks readChecks editChecks releaseChecks emptySlots saturate beyond formatTable formatIn formatOf kindValid pixelStrides settingChecks pixelPosition lowest highest quantizeChecks nearestOf nearest rounded quantized limited componentBytes componentValue componentAt component paintedElements total heldOne pixelHeld rowHeld heldCount kindTaken imageEnd fillsRectangle pictureChecks targetChecks paintChecks boxWritten boxRead plainAnswer plainStep model calls paintings.calls
+unfolding requireAt inOrder leaves elementBytes byteOf wordAt signed elementAt remadeFrom remade tabulateFrom tabulate bitPattern isNan valueCheck valueChecksFrom valueChecks elementCount rawIndex surfaces elementPosition cubeExtent boxCount spanInside spanHas boxHas boxIndex channelAt rowAt columnAt sizeValid sizesValid wholeAtoms stridesValid layoutChecks storageChecks cubeChecks surfaceOf rowOf columnOf byteInAtom inAtom atomOwner owner packedByte packed editedByte edited readElement boxElements packAnswer packBuffer slotOf slotsOf rectangleHas occupied anyFrom overlaps rectangleInside slotAt isFilled rectangleOf idOf placeChecks boxInRectangle slotChecks regionBoxChecks readChecks editChecks releaseChecks emptySlots saturate beyond formatTable formatIn formatOf kindValid pixelStrides settingChecks pixelPosition lowest highest quantizeChecks nearestOf nearest rounded quantized limited componentBytes componentValue componentAt component paintedElements total heldOne pixelHeld rowHeld heldCount kindTaken imageEnd fillsRectangle pictureChecks targetChecks paintChecks boxWritten boxRead plainAnswer plainStep model calls paintings.calls floats.calls
 pictured =
     record {
       answers = refl;
@@ -199,4 +225,7 @@ pictured =
       read-painted = refl;
       painting-edited = refl;
       painting-released = refl;
+      float-answers = refl;
+      float-refused = refl;
+      float-edited = refl;
     }

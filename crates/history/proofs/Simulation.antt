@@ -7,24 +7,24 @@
 use Prim.Native.Nat.{ℕ}
 use mathlib.Core.Path.{_≡_, refl, sym, ap, _∙_}
 use mathlib.Core.List.{List, [], _∷_, map}
-use lib.ListN.{length, getD}
-use lib.IntN.{ℤ, pos}
+use lib.ListN.{length}
+use lib.IntN.{ℤ}
 use Rattle.refusal.specs.declared.Answer.the-variants.{Accepted}
 use Rattle.refusal.specs.Checks.{inOrder}
 use Rattle.refusal.proofs.CheckLaws.{inOrder-front, inOrder-passed, leaves-done}
 use Rattle.elements.specs.Values.{valueChecks}
-use Rattle.elements.proofs.ValueLaws.{fits-valueValid, valueChecks-all}
+use Rattle.elements.proofs.ValueLaws.{valueChecks-all}
 use Rattle.layout.specs.declared.CubeLayout.{CubeLayout}
 use Rattle.layout.specs.Geometry.{elementCount}
 use Rattle.layout.specs.Rules.{cubeChecks}
 use Rattle.layout.specs.Contents.{packed}
 use Rattle.layout.specs.Calls.{packAnswer, packBuffer}
 use Rattle.layout.proofs.BoxLaws.{whole-count}
-use Rattle.layout.proofs.CallLaws.{pack-admitted}
-use Rattle.layout.proofs.RoundTrip.{packed-fits}
+use Rattle.layout.proofs.CallLaws.{pack-admitted, pack-values}
 use Rattle.regions.specs.Slots.{slotOf, slotsOf, emptySlots}
 use Rattle.history.specs.Program.{Call, SixteenBit, LendsSixteenBit, State, beginning, step, program, runTo, moment}
 use Rattle.history.specs.Model.{Plain, plainStep, model, modelTo, shown, given}
+use Rattle.history.proofs.TensorLaws.{checked-fits}
 use Rattle.history.proofs.Agreement.{Agrees, same-reply, same-elements, agrees-after}
 
 module _ (q : CubeLayout) (before : List ℕ) where
@@ -38,7 +38,7 @@ module _ (q : CubeLayout) (before : List ℕ) where
     unfolding packAnswer
     still-packs s m a =
         inOrder-passed (cubeChecks q (length (m .raw)) (length before)) (valueChecks (q .precision) (m .raw)) (ap (λ (n : ℕ). inOrder (cubeChecks q n (length before))) (a .count) ∙ room)
-        ∙ valueChecks-all (q .precision) (m .raw) (λ i h. fits-valueValid (q .precision) (getD (m .raw) i (pos 0)) (a .fits .fit i h))
+        ∙ valueChecks-all (q .precision) (m .raw) (a .fits .taken)
 
     buffer-packed : (s : State) (m : Plain) → Agrees q before s m → s .buffer ≡ packBuffer q (m .raw) before
     unfolding packBuffer
@@ -72,7 +72,7 @@ module _ (q : CubeLayout) (raw : List ℤ) (before : List ℕ) (accepted : packA
         layout = refl;
         slots = refl;
         count = count;
-        fits = record { fit = packed-fits q raw (length before) (sixteen .each) accepted };
+        fits = checked-fits q raw sixteen (pack-values q raw (length before) accepted);
         bytes = leaves-done (packed q raw before) before accepted;
       }
 

@@ -2,7 +2,7 @@
 -- are the raw tensor's. By cases on a byte's owner, and index by index. Assumes nothing.
 --     boxWritten-length, boxWritten-at     the raw tensor after elements were written at a box
 --     packed-boxWritten                    the commuting law
---     Fits, boxWritten-fits                every element fits its bytes
+--     Fits, checked-fits, boxWritten-fits                every element is one that the precision takes, and fits its bytes
 --     packed-boxRead                       what a box of the packed buffer reads
 --     zeros-at                             an element of a list of zeros
 use Prim.Native.Nat.{ℕ, zero, suc, _+_, _/_, _^_, _≤_, _<_}
@@ -13,9 +13,13 @@ use lib.ListN.{length, getD, replicate}
 use lib.Seq.{ext-getD}
 use lib.IntN.{ℤ, pos}
 use lib.Signed.{mag}
+use Rattle.refusal.specs.declared.Answer.the-variants.{Accepted}
+use Rattle.refusal.specs.Checks.{inOrder}
 use Rattle.elements.specs.Bytes.{byteOf}
+use Rattle.elements.specs.Values.{SixteenBit, valueValid, valueChecks}
 use Rattle.elements.proofs.ListLaws.{length-remade, getD-remade}
 use Rattle.elements.proofs.TabulateLaws.{tabulate-ext}
+use Rattle.elements.proofs.ValueLaws.{valueValid-fits, valueChecks-valid}
 use Rattle.layout.specs.declared.CubeLayout.{CubeLayout}
 use Rattle.layout.specs.declared.ElementBox.{ElementBox}
 use Rattle.layout.specs.Geometry.{sizeOf, elementCount, rawIndex, cubeExtent}
@@ -94,25 +98,39 @@ module _ (q : CubeLayout) (box : ElementBox) (xs raw : List ℤ) where
           ∙ ap (λ (n : ℕ). editedByte box xs (owner q p) n) (sym (packed-at q raw before p hp))
           ∙ sym (edited-at q box xs buf p hb))
 
--- every element fits its bytes
+-- every element is one that the precision takes, and fits its bytes
 pub record Fits (q : CubeLayout) (raw : List ℤ) : Type 0 where
+  pub taken : (i : ℕ) → i < length raw → valueValid (q .precision) (getD raw i (pos 0)) ≡ true
   pub fit : (i : ℕ) → i < length raw → mag (getD raw i (pos 0)) < 256 ^ sizeOf q / 2
 
-pub boxWritten-fits : (q : CubeLayout) (box : ElementBox) (xs raw : List ℤ) → length xs ≡ boxCount box → Fits q xs → Fits q raw → Fits q (boxWritten q box xs raw)
+-- elements of 16 bits that pass the check of values
+pub checked-fits : (q : CubeLayout) (xs : List ℤ) → SixteenBit xs → inOrder (valueChecks (q .precision) xs) ≡ Accepted → Fits q xs
+checked-fits q xs sixteen ok =
+    let valid = valueChecks-valid (q .precision) xs ok in
+    record { taken = valid; fit = λ i h. valueValid-fits (q .precision) (getD xs i (pos 0)) (valid i h) (sixteen .each i) }
+
+-- what holds of every element written and of every element before holds of every element
+boxWritten-each : (P : ℤ → Type 0) (q : CubeLayout) (box : ElementBox) (xs raw : List ℤ) → length xs ≡ boxCount box
+    → ((i : ℕ) → i < length xs → P (getD xs i (pos 0))) → ((i : ℕ) → i < length raw → P (getD raw i (pos 0)))
+    → (i : ℕ) → i < length (boxWritten q box xs raw) → P (getD (boxWritten q box xs raw) i (pos 0))
 unfolding new
+boxWritten-each P q box xs raw count px pr i h =
+    let hi : i < length raw = subst (λ (n : ℕ). i < n) (boxWritten-length q box xs raw) h in
+    let c = channelAt (wholeBox q) i in
+    let y = rowAt (wholeBox q) i in
+    let w = columnAt (wholeBox q) i in
+    subst P (sym (boxWritten-entry q box xs raw i hi)) (go c y w hi (boxHas box c y w) refl)
+  where
+    go : (c y w : ℕ) → i < length raw → (t : Bool) → boxHas box c y w ≡ t → P (cond t (getD xs (boxIndex box c y w) (pos 0)) (getD raw i (pos 0)))
+    go c y w hi true e = px (boxIndex box c y w) (subst (λ (n : ℕ). boxIndex box c y w < n) (sym count) (boxIndex-lt box c y w (boxHas-in box c y w e)))
+    go c y w hi false e = pr i hi
+
+pub boxWritten-fits : (q : CubeLayout) (box : ElementBox) (xs raw : List ℤ) → length xs ≡ boxCount box → Fits q xs → Fits q raw → Fits q (boxWritten q box xs raw)
 boxWritten-fits q box xs raw count fx fr =
     record {
-      fit = λ i h.
-          let hi : i < length raw = subst (λ (n : ℕ). i < n) (boxWritten-length q box xs raw) h in
-          let c = channelAt (wholeBox q) i in
-          let y = rowAt (wholeBox q) i in
-          let w = columnAt (wholeBox q) i in
-          subst (λ (z : ℤ). mag z < 256 ^ sizeOf q / 2) (sym (boxWritten-entry q box xs raw i hi)) (go c y w i hi (boxHas box c y w) refl);
+      taken = boxWritten-each (λ (z : ℤ). valueValid (q .precision) z ≡ true) q box xs raw count (fx .taken) (fr .taken);
+      fit = boxWritten-each (λ (z : ℤ). mag z < 256 ^ sizeOf q / 2) q box xs raw count (fx .fit) (fr .fit);
     }
-  where
-    go : (c y w i : ℕ) → i < length raw → (t : Bool) → boxHas box c y w ≡ t → mag (cond t (getD xs (boxIndex box c y w) (pos 0)) (getD raw i (pos 0))) < 256 ^ sizeOf q / 2
-    go c y w i hi true e = fx .fit (boxIndex box c y w) (subst (λ (n : ℕ). boxIndex box c y w < n) (sym count) (boxIndex-lt box c y w (boxHas-in box c y w e)))
-    go c y w i hi false e = fr .fit i hi
 
 -- what a box of the packed buffer reads
 pub packed-boxRead : (q : CubeLayout) → Valid q → (box : ElementBox) → BoxValid q box → (raw : List ℤ) (before : List ℕ) → length raw ≡ elementCount q → Fits q raw

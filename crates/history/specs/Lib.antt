@@ -3,3 +3,4 @@ pub mod Writes
 pub mod Model
 pub mod Example
 pub mod Paintings
+pub mod Floats

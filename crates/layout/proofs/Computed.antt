@@ -6,13 +6,14 @@ use mathlib.Core.Bool.{true, false}
 use mathlib.Core.List.{List, [], _∷_, _++_, map}
 use lib.IntN.{pos, negsuc}
 use lib.ListN.{replicate}
-use Rattle.refusal.specs.declared.Refusal.the-variants.{CubeStart, Int8Range}
+use Rattle.refusal.specs.declared.Refusal.the-variants.{CubeStart, Int8Range, Fp16Nan}
 use Rattle.refusal.specs.declared.Answer.the-variants.{Refused}
 use Rattle.refusal.specs.Codes.{answerCode, quantityAnswer}
-use Rattle.refusal.specs.Checks.{requireAt, inOrder, result}
+use Rattle.refusal.specs.Checks.{requireAt, inOrder, leaves, result}
 use Rattle.refusal.specs.Sizes.{sizeValid}
 use Rattle.elements.specs.Bytes.{elementBytes, byteOf, wordAt, signed, elementAt}
-use Rattle.elements.specs.Values.{valueValid, valueCheck, valueChecksFrom, valueChecks}
+use Rattle.elements.specs.Lists.{tabulateFrom, tabulate}
+use Rattle.elements.specs.Values.{bitPattern, isNan, valueCheck, valueChecksFrom, valueChecks}
 use Rattle.layout.specs.declared.CubeLayout.{CubeLayout}
 use Rattle.layout.specs.declared.ElementBox.{ElementBox}
 use Rattle.layout.specs.declared.ByteOwner.the-variants.{Element, Padding, Gap, Outside, Refused as NotGiven}
@@ -20,9 +21,9 @@ use Rattle.layout.specs.Geometry.{layoutOf, elementCount, rawIndex, surf
 use Rattle.layout.specs.Boxes.{oneElement, boxCount, spanInside, boxInside, spanHas, boxHas, boxIndex, channelAt, rowAt, columnAt}
 use Rattle.layout.specs.Owners.{element, padding, outside, surfaceOf, rowOf, columnOf, byteInAtom, inAtom, atomOwner, owner}
 use Rattle.layout.specs.Rules.{sizesValid, wholeAtoms, stridesValid, layoutChecks, boxChecks, storageChecks, cubeChecks, admitChecks}
-use Rattle.layout.specs.Contents.{packedByte, editedByte}
+use Rattle.layout.specs.Contents.{packedByte, editedByte, readElement, boxElements, unpacked}
 use Rattle.layout.specs.Whose.{inExtent, byteOwner, whoseAnswer, ownerAnswer}
-use Rattle.layout.specs.Calls.{packAnswer, unpackAnswer, writeBoxAnswer, clearBoxAnswer, readBoxAnswer, extentQuantity, positionQuantity}
+use Rattle.layout.specs.Calls.{packAnswer, unpackAnswer, unpackElements, writeBoxAnswer, clearBoxAnswer, readBoxAnswer, readBoxElements, extentQuantity, positionQuantity}
 
 abbrev frame : CubeLayout
 frame = layoutOf 3 2 40 0 128 256 0
@@ -82,23 +83,34 @@ pub record Computed : Type 0 where
   pub value : packAnswer (single 0 0) (pos 200 ∷ []) 32 ≡ Refused Int8Range 0
   pub exact : answerCode (packAnswer (single 0 0) (pos 100 ∷ []) 32) ≡ 0
   pub start-counts : answerCode (packAnswer (single 0 32) (pos 100 ∷ []) 32) ≡ 5
+  -- fp16: 6 and 26, 5 and 26; 26 alone, at the least index: -infinity (-1024) is taken, 31745 and -1 are NaN; int16 takes both
+  pub nan-count-first : answerCode (packAnswer (single 2 0) (negsuc 0 ∷ negsuc 0 ∷ []) 32) ≡ 6
+  pub nan-room-first : answerCode (packAnswer (single 2 0) (negsuc 0 ∷ []) 31) ≡ 5
+  pub nan : packAnswer (layoutOf 3 1 1 2 96 96 0) (negsuc 1023 ∷ pos 31745 ∷ negsuc 0 ∷ []) 96 ≡ Refused Fp16Nan 1
+  pub infinities : answerCode (packAnswer (layoutOf 2 1 1 2 64 64 0) (pos 31744 ∷ negsuc 1023 ∷ []) 64) ≡ 0
+  pub no-nan : answerCode (packAnswer (layoutOf 2 1 1 1 64 64 0) (pos 31745 ∷ negsuc 0 ∷ []) 64) ≡ 0
   -- unpacking, two at once, also 4 and 6, 6 and 5
   pub unpack-double : map (λ (q : CubeLayout). answerCode (unpackAnswer q 0 0)) wrong ≡ 1 ∷ 2 ∷ 3 ∷ 4 ∷ 6 ∷ []
-  -- writing a box, two at once, also 4 and 9, 9 and 6; 6 and 5; 5 and 7
+  -- writing a box, two at once, also 4 and 9, 9 and 6; 6 and 5; 5 and 7; 5 and 26; 26 alone
   pub write-double : map (λ (q : CubeLayout). answerCode (writeBoxAnswer q past-channels [] 0)) wrong ≡ 1 ∷ 2 ∷ 3 ∷ 4 ∷ 9 ∷ []
   pub write-count-first : answerCode (writeBoxAnswer (single 0 0) (oneElement 0 0 0) [] 31) ≡ 6
   pub write-room-first : answerCode (writeBoxAnswer (single 0 0) (oneElement 0 0 0) (pos 200 ∷ []) 31) ≡ 5
-  -- clearing a box the same, without 6 and 7: also 9 and 5; a buffer of the extent is valid
+  pub write-nan-room-first : answerCode (writeBoxAnswer (single 2 0) (oneElement 0 0 0) (negsuc 0 ∷ []) 31) ≡ 5
+  pub write-nan : writeBoxAnswer (single 2 0) (oneElement 0 0 0) (pos 32767 ∷ []) 32 ≡ Refused Fp16Nan 0
+  -- clearing a box the same, without 6, 7 and 26: also 9 and 5; a buffer of the extent is valid
   pub clear-double : map (λ (q : CubeLayout). answerCode (clearBoxAnswer q past-channels 0)) wrong ≡ 1 ∷ 2 ∷ 3 ∷ 4 ∷ 9 ∷ []
   pub clear-short : answerCode (clearBoxAnswer (single 0 0) (oneElement 0 0 0) 31) ≡ 5
   pub clear-exact : answerCode (clearBoxAnswer (single 0 0) (oneElement 0 0 0) 32) ≡ 0
-  -- reading a box the same as writing, without 7
+  -- reading a box the same as writing, without 7 and 26
   pub read-double : map (λ (q : CubeLayout). answerCode (readBoxAnswer q past-channels 0 0)) wrong ≡ 1 ∷ 2 ∷ 3 ∷ 4 ∷ 9 ∷ []
   pub read-count-first : answerCode (readBoxAnswer (single 0 0) (oneElement 0 0 0) 0 31) ≡ 6
   pub read-room : answerCode (readBoxAnswer (single 0 0) (oneElement 0 0 0) 1 31) ≡ 5
+  -- NaN in a buffer is unpacked and read; what the lent element was does not count
+  pub unpack-nan : unpackElements (single 2 0) (1 ∷ 124 ∷ replicate 30 0) (negsuc 0 ∷ []) ≡ pos 31745 ∷ []
+  pub read-nan : readBoxElements (single 2 0) (oneElement 0 0 0) (255 ∷ 255 ∷ replicate 30 0) (pos 32767 ∷ []) ≡ negsuc 0 ∷ []
 
 pub computed : Computed
-unfolding requireAt inOrder sizeValid elementBytes byteOf wordAt signed elementAt valueValid valueCheck valueChecksFrom valueChecks elementCount rawIndex surfaces elementPosition cubeExtent boxCount spanInside boxInside spanHas boxHas boxIndex channelAt rowAt columnAt surfaceOf rowOf columnOf byteInAtom inAtom atomOwner owner sizesValid wholeAtoms stridesValid layoutChecks boxChecks storageChecks cubeChecks admitChecks packedByte editedByte packAnswer unpackAnswer writeBoxAnswer clearBoxAnswer readBoxAnswer result extentQuantity positionQuantity
+unfolding requireAt inOrder leaves tabulateFrom tabulate sizeValid elementBytes byteOf wordAt signed elementAt bitPattern isNan valueCheck valueChecksFrom valueChecks elementCount rawIndex surfaces elementPosition cubeExtent boxCount spanInside boxInside spanHas boxHas boxIndex channelAt rowAt columnAt surfaceOf rowOf columnOf byteInAtom inAtom atomOwner owner sizesValid wholeAtoms stridesValid layoutChecks boxChecks storageChecks cubeChecks admitChecks packedByte editedByte readElement boxElements unpacked packAnswer unpackAnswer unpackElements writeBoxAnswer clearBoxAnswer readBoxAnswer readBoxElements result extentQuantity positionQuantity
 computed =
     record {
       position = refl;
@@ -129,16 +141,25 @@ computed =
       value = refl;
       exact = refl;
       start-counts = refl;
+      nan-count-first = refl;
+      nan-room-first = refl;
+      nan = refl;
+      infinities = refl;
+      no-nan = refl;
       unpack-double = refl;
       write-double = refl;
       write-count-first = refl;
       write-room-first = refl;
+      write-nan-room-first = refl;
+      write-nan = refl;
       clear-double = refl;
       clear-short = refl;
       clear-exact = refl;
       read-double = refl;
       read-count-first = refl;
       read-room = refl;
+      unpack-nan = refl;
+      read-nan = refl;
     }
 
 -- whose a byte is, as it is answered

@@ -15,7 +15,7 @@ use Rattle.layout.specs.Boxes.{oneElement}
 use Rattle.layout.specs.Rules.{layoutChecks, boxChecks, roomChecks, cubeChecks, admitChecks}
 use Rattle.layout.specs.Contents.{packed, edited, zerosOf, boxElements, unpacked}
 
--- pack: 1, 2, 3, 4, 6, 5, 7
+-- pack: 1, 2, 3, 4, 6, 5, then 7 or 26
 unfoldable pub packAnswer : CubeLayout → List ℤ → ℕ → Answer
 packAnswer q raw len = inOrder (cubeChecks q (length raw) len ++ valueChecks (q .precision) raw)
 
@@ -29,7 +29,7 @@ unpackAnswer q given len = inOrder (cubeChecks q given len)
 unfoldable pub unpackElements : CubeLayout → List ℕ → List ℤ → List ℤ
 unpackElements q buffer before = leaves (unpackAnswer q (length before) (length buffer)) (unpacked q buffer) before
 
--- write a box: 1, 2, 3, 4, 9, 6, 5, 7
+-- write a box: 1, 2, 3, 4, 9, 6, 5, then 7 or 26
 unfoldable pub writeBoxAnswer : CubeLayout → ElementBox → List ℤ → ℕ → Answer
 writeBoxAnswer q box elements len = inOrder (admitChecks q box (length elements) len ++ valueChecks (q .precision) elements)
 

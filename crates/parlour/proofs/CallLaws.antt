@@ -27,6 +27,7 @@ use Rattle.pixels.specs.Formats.{formatOf}
 use Rattle.pixels.specs.Places.{InImage}
 use Rattle.pixels.specs.Settings.{pixelBytes, pixelPosition}
 use Rattle.pixels.proofs.Valid.{valid}
+use Rattle.quantize.proofs.AnswerLaws.{checked}
 use Rattle.regions.specs.declared.RegionTable.{RegionTable}
 use Rattle.regions.specs.Rules.{Access, accessOf, wholeRegion, editChecks}
 use Rattle.regions.specs.Calls.{editAnswer, editBuffer}
@@ -61,7 +62,7 @@ module _ (a : Access) (image : PixelSetting) where
         inOrder-passed _ _ (t .checked)
         ∙ inOrder-next 0 ElementCount _ (eq-eqb (length xs) (boxCount (wholeRegion a)) count)
         ∙ inOrder-next 0 BufferLength _ (le-leb (q .start + cubeExtent q) len (t .room))
-        ∙ painted-valid image pixels k (q .precision)
+        ∙ painted-valid image pixels k (q .precision) (checked (q .precision) (k .shift) (paint-accepted .0 .conversion) .0)
 
 module _ (t : RegionTable) (n id : ℕ) (image : PixelSetting) (pixels : List ℕ) (k : Conversion) (before : List ℕ) where
   abbrev all : ElementBox

@@ -1,5 +1,5 @@
 -- The elements that a picture becomes: how many, and that each is one of the precision's and of 16 bits. Assumes nothing.
---     converted-valid, converted-mag      a converted component
+--     converted-valid, converted-mag      a converted component: int8 and int16 take it
 --     painted-length, painted-at          a picture's elements
 --     painted-valid, painted-sixteen      each is one of the precision's, and of 16 bits
 use Prim.Native.Nat.{ℕ, zero, suc, _/_, _^_, _≤_, _<_}
@@ -35,8 +35,8 @@ module _ (k : Conversion) (d : ℤ) where
   converted-fits zero = fits-saturate {w = w8} (rounded d (k .offset) (k .scale) (k .shift)) (sfits-lit tt) (sfits-lit tt) .sfits
   converted-fits (suc p) = quantized-fits d (k .offset) (k .scale) (k .shift) (suc p) .sfits
 
-  pub converted-valid : (p : ℕ) → valueValid p (converted k p d) ≡ true
-  converted-valid p = fits-valueValid p (converted k p d) (converted-fits p)
+  pub converted-valid : (p : ℕ) → p < 2 → valueValid p (converted k p d) ≡ true
+  converted-valid p h = fits-valueValid p (converted k p d) h (converted-fits p)
 
   pub converted-mag : (p : ℕ) → mag (converted k p d) < 32768
   converted-mag p = quantized-fits d (k .offset) (k .scale) (k .shift) p .sfits
@@ -61,10 +61,10 @@ module _ (image : PixelSetting) (pixels : List ℕ) (k : Conversion) (p : ℕ) w
         | no f ↦ subst⁻¹ P (List·getD-eq-default (paintedElements image pixels k p) (pos 0) (subst⁻¹ (λ (n : ℕ). n ≤ i) painted-length (omega arith))) none
       ]
 
-  pub painted-valid : inOrder (valueChecks p (paintedElements image pixels k p)) ≡ Accepted
-  painted-valid =
+  pub painted-valid : p < 2 → inOrder (valueChecks p (paintedElements image pixels k p)) ≡ Accepted
+  painted-valid h =
       valueChecks-all p (paintedElements image pixels k p)
-      (λ i h. subst⁻¹ (λ (z : ℤ). valueValid p z ≡ true) (painted-at i (subst (λ (n : ℕ). i < n) painted-length h)) (converted-valid k _ p))
+      (λ i b. subst⁻¹ (λ (z : ℤ). valueValid p z ≡ true) (painted-at i (subst (λ (n : ℕ). i < n) painted-length b)) (converted-valid k _ p h))
 
   pub painted-sixteen : SixteenBit (paintedElements image pixels k p)
   painted-sixteen = record { each = each (λ (z : ℤ). mag z < 32768) (omega arith) (λ d. converted-mag k d p) }

@@ -35,6 +35,7 @@ use Rattle.pixels.specs.Formats.{formatOf}
 use Rattle.pixels.specs.Places.{ValidSetting}
 use Rattle.pixels.specs.Settings.{pixelPosition}
 use Rattle.pixels.proofs.Valid.{valid}
+use Rattle.quantize.proofs.AnswerLaws.{checked}
 use Rattle.parlour.specs.declared.Conversion.{Conversion}
 use Rattle.parlour.specs.Components.{componentBytes, componentAt, component, converted}
 use Rattle.parlour.proofs.RuleLaws.{ValidPicture, picture-accepted}
@@ -164,7 +165,7 @@ module _ (q : CubeLayout) (box : ElementBox) (image : PixelSetting) (pixels : Li
       (λ i h.
       let hi = subst (λ (n : ℕ). i < n) (length-tabulate _ (boxCount part)) h in
       ap (valueValid (q .precision)) (getD-tabulate (λ (n : ℕ). rule (channelAt part n) (rowAt part n) (columnAt part n)) (boxCount part) i (pos 0) hi)
-      ∙ converted-valid k _ (q .precision))
+      ∙ converted-valid k _ (q .precision) (checked (q .precision) (k .shift) (r .picture .conversion) .0))
 
   part-accepted : writeBoxAnswer q part (elementsBy part rule) len ≡ Accepted
   part-accepted =

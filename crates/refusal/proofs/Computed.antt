@@ -2,7 +2,7 @@
 use mathlib.Core.Path.{_≡_, refl}
 use mathlib.Core.Bool.{true, false}
 use mathlib.Core.List.{[], _∷_}
-use Rattle.refusal.specs.declared.Refusal.the-variants.{Size, Int8Range, Slot, Overlap}
+use Rattle.refusal.specs.declared.Refusal.the-variants.{Size, Int8Range, Slot, Overlap, Fp16Nan}
 use Rattle.refusal.specs.declared.Answer.the-variants.{Accepted, Refused}
 use Rattle.refusal.specs.declared.Quantity.the-variants.{Is, Refused as NotGiven}
 use Rattle.refusal.specs.Codes.{answerCode, faultIndex, quantityAnswer, quantityValue}
@@ -20,6 +20,7 @@ pub record Computed : Type 0 where
   pub given : quantity Accepted 5 ≡ Is 5
   -- the paper's number and place
   pub overlap : answerCode (Refused Overlap 0) ≡ 10
+  pub nan : answerCode (Refused Fp16Nan 0) ≡ 26
   pub none : faultIndex Accepted ≡ 0
   pub place : faultIndex (Refused Int8Range 5) ≡ 5
   pub quantity-refused : answerCode (quantityAnswer (NotGiven Slot 0)) ≡ 8
@@ -43,6 +44,7 @@ computed =
       denied = refl;
       given = refl;
       overlap = refl;
+      nan = refl;
       none = refl;
       place = refl;
       quantity-refused = refl;

@@ -1,7 +1,7 @@
 -- The number of each refusal, and number, index and value of each result (scope paper, "Refusal numbers"). Assumes nothing.
 use Prim.Native.Nat.{ℕ}
 use Rattle.refusal.specs.declared.Refusal.{Refusal}
-use Rattle.refusal.specs.declared.Refusal.the-variants.{Size, Precision, CubeStrides, CubeStart, BufferLength, ElementCount, Int8Range, Slot, Bounds, Overlap, TableLength, XSelect, XEnd, YSelect, YEnd, Shift, Counters, OutputLength, PixelFormat, PixelKind, XOffset, PixelStrides, PixelOutside, ScriptLine, OwnerId, ImageKind, PixelLength}
+use Rattle.refusal.specs.declared.Refusal.the-variants.{Size, Precision, CubeStrides, CubeStart, BufferLength, ElementCount, Int8Range, Slot, Bounds, Overlap, TableLength, XSelect, XEnd, YSelect, YEnd, Shift, Counters, OutputLength, PixelFormat, PixelKind, XOffset, PixelStrides, PixelOutside, ScriptLine, OwnerId, ImageKind, PixelLength, Fp16Nan}
 use Rattle.refusal.specs.declared.Answer.{Answer}
 use Rattle.refusal.specs.declared.Answer.the-variants.{Accepted, Refused}
 use Rattle.refusal.specs.declared.Quantity.{Quantity}
@@ -63,6 +63,8 @@ codeOf OwnerId = 25
 codeOf ImageKind = 29
 -- pixel buffer ends before the last pixel's end
 codeOf PixelLength = 30
+-- fp16 cell that is NaN
+codeOf Fp16Nan = 26
 
 -- 0 where the call was accepted, else the refusal's number
 abbrev pub answerCode : Answer → ℕ

@@ -32,6 +32,7 @@ pub enum Refusal {
     OwnerId,
     ImageKind,
     PixelLength,
+    Fp16Nan,
 }
 
 // Accepted, or refused with the index at fault (the paper's "place").
@@ -78,6 +79,7 @@ pub fn code(r: Refusal) -> u32
         Refusal::OwnerId => 25,
         Refusal::ImageKind => 29,
         Refusal::PixelLength => 30,
+        Refusal::Fp16Nan => 26,
     }
 }
 

@@ -3,9 +3,9 @@
 use Prim.Native.Nat.{ℕ}
 use mathlib.Core.Path.{_≡_, refl}
 use mathlib.Core.List.{List, [], _∷_, _++_, map}
-use lib.IntN.{ℤ, pos}
+use lib.IntN.{ℤ, pos, negsuc}
 use lib.ListN.{getD, replicate}
-use Rattle.refusal.specs.declared.Refusal.the-variants.{Int8Range, OwnerId}
+use Rattle.refusal.specs.declared.Refusal.the-variants.{Int8Range, OwnerId, Fp16Nan}
 use Rattle.refusal.specs.declared.Answer.the-variants.{Refused}
 use Rattle.refusal.specs.declared.Quantity.the-variants.{Is}
 use Rattle.refusal.specs.Codes.{answerCode, quantityAnswer}
@@ -13,7 +13,7 @@ use Rattle.refusal.specs.Checks.{requireAt, inOrder, leaves, result}
 use Rattle.refusal.specs.Sizes.{sizeValid}
 use Rattle.elements.specs.Bytes.{elementBytes, byteOf, wordAt, signed, elementAt}
 use Rattle.elements.specs.Lists.{remadeFrom, remade, tabulateFrom, tabulate}
-use Rattle.elements.specs.Values.{valueValid, valueCheck, valueChecksFrom, valueChecks}
+use Rattle.elements.specs.Values.{bitPattern, isNan, valueCheck, valueChecksFrom, valueChecks}
 use Rattle.layout.specs.declared.CubeLayout.{CubeLayout}
 use Rattle.layout.specs.declared.ElementBox.{ElementBox}
 use Rattle.layout.specs.Geometry.{layoutOf, surfaces, elementPosition, cubeExtent}
@@ -51,6 +51,10 @@ wrong = map emptyTable (layoutOf 0 2 40 3 128 256 0 ∷ layoutOf 3 2 40 3 0 256 
 -- two columns of one element each, the second one placed in slot 0, of owner 3
 abbrev small : RegionTable
 small = placeTable (emptyTable (layoutOf 2 1 1 0 64 64 0)) 0 3 (rectangle 1 0 1 1)
+
+-- the same of fp16
+abbrev floats : RegionTable
+floats = placeTable (emptyTable (layoutOf 2 1 1 2 64 64 0)) 0 3 (rectangle 1 0 1 1)
 
 abbrev slot : RegionTable → ℕ → Region
 slot t n = getD (t .slots) n (placedRegion 1 (rectangle 9 9 9 9))
@@ -99,7 +103,11 @@ pub record Computed : Type 0 where
       ∷ []
       ≡ 25 ∷ 9 ∷ 6 ∷ 5 ∷ []
   pub value : editAnswer table 0 7 (oneElement 0 0 0) (pos 200 ∷ []) 480 ≡ Refused Int8Range 0
-  -- a read the same, without 7
+  -- fp16: 6 and 26, 5 and 26; 26 alone; -infinity is taken
+  pub nan-later : editing floats 0 3 (oneElement 0 0 0) (negsuc 0 ∷ negsuc 0 ∷ []) 63 ∷ editing floats 0 3 (oneElement 0 0 0) (negsuc 0 ∷ []) 63 ∷ [] ≡ 6 ∷ 5 ∷ []
+  pub nan : editAnswer floats 0 3 (oneElement 0 0 0) (negsuc 1022 ∷ []) 64 ≡ Refused Fp16Nan 0
+  pub infinity : editing floats 0 3 (oneElement 0 0 0) (negsuc 1023 ∷ []) 64 ≡ 0
+  -- a read the same, without 7 and 26
   pub read-double : map (λ (t : RegionTable). reading t 0 nothing 1 0) wrong ≡ 1 ∷ 2 ∷ 3 ∷ 4 ∷ 8 ∷ []
   pub read-later : reading table 8 nothing 1 0 ∷ reading table 7 nothing 1 0 ∷ reading table 7 (oneElement 0 0 0) 0 479 ∷ reading table 7 (oneElement 0 0 0) 1 479 ∷ [] ≡ 25 ∷ 9 ∷ 6 ∷ 5 ∷ []
   -- a release, two at once, also 4 and 8, 8 and 25; 25 and 9; 9 and 5; 5 and accepted
@@ -123,9 +131,11 @@ pub record Computed : Type 0 where
   -- the box of the cube that a region is; of another owner it is 25
   pub found : regionFound two 1 9 ≡ At (record { channel = 0; row = 0; column = 2; channels = 40; rows = 2; columns = 1 })
   pub not-found : regionFound two 1 7 ≡ NotFound OwnerId 0
-  -- an edit writes its element at the region's corner, and a read gives it; a read has no 7
+  -- an edit writes its element at the region's corner, and a read gives it; a read has no 7 and no 26; a refused edit changes nothing
   pub written : editBuffer small 0 3 (oneElement 0 0 0) (pos 5 ∷ []) (replicate 64 9) ≡ replicate 32 9 ++ 5 ∷ replicate 31 9
   pub read : readElements small 0 3 (oneElement 0 0 0) (replicate 32 9 ++ 5 ∷ replicate 31 9) (pos 200 ∷ []) ≡ pos 5 ∷ []
+  pub read-nan : readElements floats 0 3 (oneElement 0 0 0) (replicate 32 9 ++ 255 ∷ 255 ∷ replicate 30 9) (pos 32767 ∷ []) ≡ negsuc 0 ∷ []
+  pub nan-kept : editBuffer floats 0 3 (oneElement 0 0 0) (negsuc 0 ∷ []) (replicate 64 9) ≡ replicate 64 9
   pub refused : readElements small 0 3 (oneElement 0 0 1) (replicate 64 9) (pos 200 ∷ []) ≡ pos 200 ∷ []
   -- a release clears its element and no other byte, and its table is empty again; of another owner it changes nothing
   pub cleared : releaseBuffer small 0 3 (replicate 64 9) ≡ replicate 32 9 ++ 0 ∷ replicate 31 9
@@ -137,7 +147,7 @@ pub record Computed : Type 0 where
   pub next : placing two 2 8 (rectangle 1 0 1 1) ∷ placing (releaseTable two 0 7 480) 0 8 (rectangle 1 0 1 1) ∷ [] ≡ 10 ∷ 0 ∷ []
 
 pub computed : Computed
-unfolding requireAt inOrder leaves result sizeValid elementBytes byteOf wordAt signed elementAt remadeFrom remade tabulateFrom tabulate valueValid valueCheck valueChecksFrom valueChecks surfaces elementPosition cubeExtent boxCount spanInside spanHas boxHas boxIndex channelAt rowAt columnAt sizesValid wholeAtoms stridesValid layoutChecks storageChecks surfaceOf rowOf columnOf byteInAtom inAtom atomOwner owner editedByte edited readElement boxElements slotOf slotsOf rectangleHas occupied anyFrom overlaps rectangleInside slotAt isFilled rectangleOf idOf placeChecks boxInRectangle slotChecks regionBoxChecks readChecks editChecks releaseChecks placeAnswer placeTable editAnswer editBuffer readAnswer readElements releaseAnswer releaseTable releaseBuffer regionPosition regionCount regionFound
+unfolding requireAt inOrder leaves result sizeValid elementBytes byteOf wordAt signed elementAt remadeFrom remade tabulateFrom tabulate bitPattern isNan valueCheck valueChecksFrom valueChecks surfaces elementPosition cubeExtent boxCount spanInside spanHas boxHas boxIndex channelAt rowAt columnAt sizesValid wholeAtoms stridesValid layoutChecks storageChecks surfaceOf rowOf columnOf byteInAtom inAtom atomOwner owner editedByte edited readElement boxElements slotOf slotsOf rectangleHas occupied anyFrom overlaps rectangleInside slotAt isFilled rectangleOf idOf placeChecks boxInRectangle slotChecks regionBoxChecks readChecks editChecks releaseChecks placeAnswer placeTable editAnswer editBuffer readAnswer readElements releaseAnswer releaseTable releaseBuffer regionPosition regionCount regionFound
 computed =
     record {
       placings = refl;
@@ -149,6 +159,9 @@ computed =
       edit-double = refl;
       edit-later = refl;
       value = refl;
+      nan-later = refl;
+      nan = refl;
+      infinity = refl;
       read-double = refl;
       read-later = refl;
       release-double = refl;
@@ -168,6 +181,8 @@ computed =
       not-found = refl;
       written = refl;
       read = refl;
+      read-nan = refl;
+      nan-kept = refl;
       refused = refl;
       cleared = refl;
       emptied = refl;

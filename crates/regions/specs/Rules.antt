@@ -122,7 +122,7 @@ regionBoxChecks a b = slotChecks a ++ boundsChecks (a .layout) (rectangleNamed a
 unfoldable pub readChecks : Access → ElementBox → ℕ → ℕ → List Answer
 readChecks a b given len = regionBoxChecks a b ++ storageChecks (a .layout) (boxCount b) given len
 
--- edit: 1 to 4, 8, 25, 9, 6, 5, 7
+-- edit: 1 to 4, 8, 25, 9, 6, 5, then 7 or 26
 unfoldable pub editChecks : Access → ElementBox → List ℤ → ℕ → List Answer
 editChecks a b elements len =
     regionBoxChecks a b ++ (storageChecks (a .layout) (boxCount b) (length elements) len ++ valueChecks (a .layout .precision) elements)

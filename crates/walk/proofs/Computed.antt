@@ -5,13 +5,13 @@ use mathlib.Core.Path.{_≡_, refl}
 use mathlib.Core.List.{List, [], _∷_, _++_, map}
 use lib.IntN.{ℤ, pos, negsuc, _-ℤ_}
 use lib.ListN.{getD, replicate}
-use Rattle.refusal.specs.declared.Refusal.the-variants.{Int8Range}
+use Rattle.refusal.specs.declared.Refusal.the-variants.{Int8Range, Fp16Nan}
 use Rattle.refusal.specs.Codes.{answerCode}
 use Rattle.refusal.specs.Checks.{requireAt, inOrder, result}
 use Rattle.refusal.specs.Sizes.{sizeValid}
 use Rattle.elements.specs.Bytes.{elementBytes, byteOf}
 use Rattle.elements.specs.Lists.{remadeFrom, remade, tabulateFrom, tabulate}
-use Rattle.elements.specs.Values.{valueValid, valueCheck, valueChecksFrom, valueChecks}
+use Rattle.elements.specs.Values.{bitPattern, isNan, valueCheck, valueChecksFrom, valueChecks}
 use Rattle.layout.specs.declared.CubeLayout.{CubeLayout}
 use Rattle.layout.specs.Geometry.{layoutOf, elementCount, surfaces, cubeExtent}
 use Rattle.layout.specs.Rules.{sizesValid, wholeAtoms, stridesValid, layoutChecks, storageChecks, cubeChecks}
@@ -103,10 +103,10 @@ pub record Computed : Type 0 where
   pub last-bytes : map bytes (4 ∷ 5 ∷ 6 ∷ 7 ∷ []) ≡ (64 ∷ replicate 31 0) ∷ (65 ∷ replicate 31 0) ∷ (66 ∷ replicate 31 0) ∷ (67 ∷ replicate 31 0) ∷ []
   -- behind the last atom the bytes are 0
   pub none-bytes : bytes 8 ≡ replicate 32 0
-  -- −2 in each precision
+  -- −2 in each precision; of fp16 its bits are 0xC000, as a number −16384
   pub int8 : one 0 (negsuc 1) ≡ 254 ∷ replicate 31 0
   pub int16 : one 1 (negsuc 1) ≡ 254 ∷ 255 ∷ replicate 30 0
-  pub fp16 : one 2 (negsuc 1) ≡ 254 ∷ 255 ∷ replicate 30 0
+  pub fp16 : one 2 (negsuc 16383) ≡ 0 ∷ 192 ∷ replicate 30 0
   -- written: an atom's byte, its padding, the gap behind a line
   pub writes : map (λ (p : ℕ). getD (stepsWritten 8 (firstWalk cube) raw (replicate 384 9)) p 0) (33 ∷ 225 ∷ 96 ∷ []) ≡ 196 ∷ 0 ∷ 9 ∷ []
   -- refused as packing is: two at once, also 4 and 6, 6 and 5, 5 and 7; 7 alone, with its index; a length of the start and the extent is taken
@@ -114,6 +114,10 @@ pub record Computed : Type 0 where
   pub room-first : refused (single 0 0) (pos 200 ∷ []) 31 ≡ 5
   pub value : walkStart (layoutOf 2 1 1 0 64 64 0) (pos 1 ∷ pos 200 ∷ []) 64 ≡ Refused Int8Range 1
   pub short : refused cube raw 383 ≡ 5
+  -- fp16: 5 and 26; 26 alone, with its index; infinity is taken
+  pub nan-room-first : refused (single 2 0) (negsuc 0 ∷ []) 31 ≡ 5
+  pub nan : walkStart (layoutOf 2 1 1 2 64 64 0) (pos 31744 ∷ negsuc 0 ∷ []) 64 ≡ Refused Fp16Nan 1
+  pub infinity : walkStart (single 2 0) (pos 31744 ∷ []) 32 ≡ Walking (firstWalk (single 2 0))
   -- by hand: no channels; the next position just fits 64 bits, and just not; so the next index; the last atom asks no sum
   pub no-channels : given (hand 32 0 2 2 0 0) ≡ NoneLeft
   pub position-fits : given (hand 18446744073709551583 0 2 2 9 0) ≡ At 18446744073709551583
@@ -129,7 +133,7 @@ pub record Computed : Type 0 where
   pub none-columns : walkStep (hand 32 0 0 2 3 0) [] .walk .position ≡ 96
 
 pub computed : Computed
-unfolding requireAt inOrder result sizeValid elementBytes byteOf remadeFrom remade tabulateFrom tabulate valueValid valueCheck valueChecksFrom valueChecks elementCount surfaces cubeExtent sizesValid wholeAtoms stridesValid layoutChecks storageChecks cubeChecks packAnswer atomElements firstWalk walkStart strideOf moved atomLeft atomByte atomBytes walkStep walkAfter stepTold writtenAt stepsWritten
+unfolding requireAt inOrder result sizeValid elementBytes byteOf remadeFrom remade tabulateFrom tabulate bitPattern isNan valueCheck valueChecksFrom valueChecks elementCount surfaces cubeExtent sizesValid wholeAtoms stridesValid layoutChecks storageChecks cubeChecks packAnswer atomElements firstWalk walkStart strideOf moved atomLeft atomByte atomBytes walkStep walkAfter stepTold writtenAt stepsWritten
 computed =
     record {
       starts = refl;
@@ -146,6 +150,9 @@ computed =
       room-first = refl;
       value = refl;
       short = refl;
+      nan-room-first = refl;
+      nan = refl;
+      infinity = refl;
       no-channels = refl;
       position-fits = refl;
       position-past = refl;

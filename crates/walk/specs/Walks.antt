@@ -45,7 +45,7 @@ firstWalk q =
       group = (atomElements (q .precision) - 1) * (q .height * q .width) + 1;
     }
 
--- start: what packing answers over a buffer of `len` bytes, 1, 2, 3, 4, 6, 5, 7
+-- start: what packing answers over a buffer of `len` bytes, 1, 2, 3, 4, 6, 5, then 7 or 26
 unfoldable pub walkStart : CubeLayout → List ℤ → ℕ → Started
 walkStart q raw len = result Walking Refused (packAnswer q raw len) (firstWalk q)
 

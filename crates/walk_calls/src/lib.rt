@@ -12,7 +12,7 @@ use walk::Started;
 use walk::Step;
 use walk::Walk;
 
-// The walk before the first atom. It is refused as packing the same elements into a buffer of `len` bytes is: 1, 2, 3, 4, 6, 5, 7.
+// The walk before the first atom. It is refused as packing the same elements into a buffer of `len` bytes is: 1, 2, 3, 4, 6, 5, then 7 or 26.
 pub fn start(layout: CubeLayout, elements: &[i16], len: usize) -> Started
     ensures { λ r. ⌜ r ≡ walkStart layout (now (elements .entry)) len ⌝ }
 {

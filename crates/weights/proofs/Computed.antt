@@ -3,19 +3,22 @@
 use Prim.Native.Nat.{ℕ}
 use mathlib.Core.Path.{_≡_, refl}
 use mathlib.Core.List.{List, [], _∷_}
-use lib.IntN.{ℤ, pos}
-use Rattle.refusal.specs.declared.Refusal.the-variants.{Size, Precision, Int8Range, Bounds}
+use lib.IntN.{ℤ, pos, negsuc}
+use lib.ListN.{replicate}
+use Rattle.refusal.specs.declared.Refusal.the-variants.{Size, Precision, Int8Range, Fp16Nan, Bounds}
 use Rattle.refusal.specs.declared.Answer.the-variants.{Refused}
 use Rattle.refusal.specs.declared.Quantity.the-variants.{Is, Refused as NotGiven}
 use Rattle.refusal.specs.Codes.{answerCode}
-use Rattle.refusal.specs.Checks.{requireAt, inOrder, result}
+use Rattle.refusal.specs.Checks.{requireAt, inOrder, leaves, result}
 use Rattle.refusal.specs.Sizes.{sizeValid}
-use Rattle.elements.specs.Bytes.{elementBytes}
-use Rattle.elements.specs.Values.{valueValid, valueCheck, valueChecksFrom, valueChecks}
+use Rattle.elements.specs.Bytes.{elementBytes, byteOf, wordAt, signed, elementAt}
+use Rattle.elements.specs.Lists.{tabulateFrom, tabulate}
+use Rattle.elements.specs.Values.{bitPattern, isNan, valueCheck, valueChecksFrom, valueChecks}
 use Rattle.weights.specs.declared.WeightLayout.{WeightLayout}
-use Rattle.weights.specs.Geometry.{groupSize, elementCount, groupKernels, blockChannels, offsetNumber, elementNumber, elementPosition, surfaceBytes}
+use Rattle.weights.specs.Geometry.{groupSize, elementCount, groupKernels, blockChannels, offsetNumber, elementNumber, elementPosition, surfaceBytes, numberAt}
 use Rattle.weights.specs.Rules.{sizesValid, weightChecks, elementInside, elementChecks}
-use Rattle.weights.specs.Calls.{packAnswer, unpackAnswer, countQuantity, extentQuantity, positionQuantity}
+use Rattle.weights.specs.Contents.{unpacked}
+use Rattle.weights.specs.Calls.{packAnswer, unpackAnswer, unpackElements, countQuantity, extentQuantity, positionQuantity}
 
 abbrev weights : ℕ → ℕ → ℕ → ℕ → ℕ → WeightLayout
 weights k c r s p = record { kernels = k; channels = c; rows = r; columns = s; precision = p }
@@ -48,11 +51,17 @@ pub record Computed : Type 0 where
   pub packing-double : packing (weights 0 1 1 1 3) [] 0 ∷ packing (weights 1 1 1 1 3) [] 0 ∷ packing (weights 1 1 1 1 0) [] 127 ∷ packing (weights 1 1 1 1 0) (pos 200 ∷ []) 127 ∷ [] ≡ 1 ∷ 2 ∷ 6 ∷ 5 ∷ []
   pub value : packAnswer (weights 1 1 1 2 0) (pos 7 ∷ pos 200 ∷ []) 128 ≡ Refused Int8Range 1
   pub exact : packing (weights 1 1 1 1 0) (pos 100 ∷ []) 128 ≡ 0
+  -- fp16: 6 and 26, 5 and 26; 26 alone, at the least index; infinities are taken, and in int16 every element
+  pub nan-later : packing (weights 1 1 1 1 2) (negsuc 0 ∷ negsuc 0 ∷ []) 127 ∷ packing (weights 1 1 1 1 2) (negsuc 0 ∷ []) 127 ∷ [] ≡ 6 ∷ 5 ∷ []
+  pub nan : packAnswer (weights 1 1 1 3 2) (pos 31744 ∷ negsuc 1022 ∷ pos 32767 ∷ []) 128 ≡ Refused Fp16Nan 1
+  pub infinities : packing (weights 1 1 1 2 2) (pos 31744 ∷ negsuc 1023 ∷ []) 128 ∷ packing (weights 1 1 1 1 1) (negsuc 0 ∷ []) 128 ∷ [] ≡ 0 ∷ 0 ∷ []
+  -- unpacking has no 26
+  pub unpacking-nan : unpackElements (weights 1 1 1 1 2) (1 ∷ 252 ∷ replicate 126 0) (negsuc 0 ∷ []) ≡ negsuc 1022 ∷ []
   -- unpacking, two at once: 1 and 2, 2 and 6, 6 and 5
   pub unpacking-double : answerCode (unpackAnswer (weights 0 1 1 1 3) 0 0) ∷ answerCode (unpackAnswer (weights 1 1 1 1 3) 0 0) ∷ answerCode (unpackAnswer (weights 1 1 1 1 0) 0 127) ∷ [] ≡ 1 ∷ 2 ∷ 6 ∷ []
 
 pub computed : Computed
-unfolding requireAt inOrder result sizeValid elementBytes valueValid valueCheck valueChecksFrom valueChecks groupSize elementCount groupKernels blockChannels offsetNumber elementNumber elementPosition surfaceBytes sizesValid weightChecks elementInside elementChecks packAnswer unpackAnswer countQuantity extentQuantity positionQuantity
+unfolding requireAt inOrder leaves result sizeValid elementBytes byteOf wordAt signed elementAt tabulateFrom tabulate bitPattern isNan valueCheck valueChecksFrom valueChecks groupSize elementCount groupKernels blockChannels offsetNumber elementNumber elementPosition surfaceBytes numberAt sizesValid weightChecks elementInside elementChecks unpacked packAnswer unpackAnswer unpackElements countQuantity extentQuantity positionQuantity
 computed =
     record {
       positions = refl;
@@ -66,5 +75,9 @@ computed =
       packing-double = refl;
       value = refl;
       exact = refl;
+      nan-later = refl;
+      nan = refl;
+      infinities = refl;
+      unpacking-nan = refl;
       unpacking-double = refl;
     }

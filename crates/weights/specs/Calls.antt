@@ -13,7 +13,7 @@ use Rattle.weights.specs.Geometry.{elementCount, elementPosition, surfac
 use Rattle.weights.specs.Rules.{settingChecks, weightChecks, elementChecks}
 use Rattle.weights.specs.Contents.{packed, unpacked}
 
--- pack: 1, 2, 6, 5, 7
+-- pack: 1, 2, 6, 5, then 7 or 26
 unfoldable pub packAnswer : WeightLayout → List ℤ → ℕ → Answer
 packAnswer q raw len = inOrder (weightChecks q (length raw) len ++ valueChecks (q .precision) raw)
 

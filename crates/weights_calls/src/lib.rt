@@ -46,7 +46,7 @@ fn check(layout: WeightLayout, given: usize, len: usize) -> Answer
     Answer::Accepted
 }
 
-// Packs raw weights into a buffer: checks 1, 2, 6, 5, 7.
+// Packs raw weights into a buffer: checks 1, 2, 6, 5, then 7 or 26.
 pub fn pack(layout: WeightLayout, elements: &[i16], buffer: &mut [u8]) -> Answer
     ensures { λ r. ⌜ r ≡ packAnswer layout (now (elements .entry)) (length (now (buffer .entry))) ⌝ }
     ensures { λ r. ⌜ now (buffer .exit) ≡ packBuffer layout (now (elements .entry)) (now (buffer .entry)) ⌝ }

@@ -5,7 +5,7 @@ use Rattle.refusal.specs.Sizes.{sizeValid}
 use Rattle.refusal.specs.Checks.{requireAt, inOrder, leaves, result}
 use Rattle.elements.specs.Bytes.{elementBytes, byteOf}
 use Rattle.elements.specs.Lists.{remadeFrom, remade}
-use Rattle.elements.specs.Values.{valueValid, valueCheck, valueChecksFrom, valueChecks}
+use Rattle.elements.specs.Values.{valueCheck, valueChecksFrom, valueChecks}
 use Rattle.layout.specs.Geometry.{elementCount, rawIndex, surfaces, elementPosition, cubeExtent}
 use Rattle.layout.specs.Boxes.{spanInside, boxInside}
 use Rattle.layout.specs.Rules.{sizesValid, wholeAtoms, stridesValid, layoutChecks, boxChecks, storageChecks, cubeChecks}
@@ -35,7 +35,7 @@ unfoldable pub cases : List Case
 cases = cubeCases ++ weightCases ++ conversionCases ++ lookupCases ++ cameraCases
 
 pub worked : T (allGiven cases)
-unfolding cases sameNumbers allGiven cubeCases weightCases conversionCases lookupCases cameraCases tensFrom requireAt inOrder leaves result elementBytes byteOf remadeFrom remade valueValid valueCheck valueChecksFrom valueChecks elementCount rawIndex surfaces elementPosition cubeExtent spanInside boxInside sizeValid sizesValid wholeAtoms stridesValid layoutChecks boxChecks storageChecks cubeChecks surfaceOf rowOf columnOf byteInAtom inAtom atomOwner owner packedByte packed packAnswer packBuffer positionQuantity w.groupSize w.elementCount w.groupKernels w.blockChannels w.offsetNumber w.elementNumber w.elementPosition w.surfaceBytes saturate lowest highest quantizeChecks nearestOf nearest rounded quantized quantizeAnswer between scaled shifted logBelow entry interpolated linearSide linearHit reaches exponentialSide exponentialHit sloped sideX hitX answerX sideY answerY kindOf sampleKind answering answerOf sampleAnswer kindNumber sameKind countOf counted modeValid sameZ endValid shiftValid counterSum tableChecks lutChecks runAnswer runOutputs runCounters curveEntry curveY curveX indices yTable xTable chosen flat readySettings readyChecks readyAnswer
+unfolding cases sameNumbers allGiven cubeCases weightCases conversionCases lookupCases cameraCases tensFrom requireAt inOrder leaves result elementBytes byteOf remadeFrom remade valueCheck valueChecksFrom valueChecks elementCount rawIndex surfaces elementPosition cubeExtent spanInside boxInside sizeValid sizesValid wholeAtoms stridesValid layoutChecks boxChecks storageChecks cubeChecks surfaceOf rowOf columnOf byteInAtom inAtom atomOwner owner packedByte packed packAnswer packBuffer positionQuantity w.groupSize w.elementCount w.groupKernels w.blockChannels w.offsetNumber w.elementNumber w.elementPosition w.surfaceBytes saturate lowest highest quantizeChecks nearestOf nearest rounded quantized quantizeAnswer between scaled shifted logBelow entry interpolated linearSide linearHit reaches exponentialSide exponentialHit sloped sideX hitX answerX sideY answerY kindOf sampleKind answering answerOf sampleAnswer kindNumber sameKind countOf counted modeValid sameZ endValid shiftValid counterSum tableChecks lutChecks runAnswer runOutputs runCounters curveEntry curveY curveX indices yTable xTable chosen flat readySettings readyChecks readyAnswer
 worked =
     -- the curve's roots, by their squares
     rw (

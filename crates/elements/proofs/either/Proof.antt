@@ -4,7 +4,7 @@ use Rattle.elements.proofs.either.Statement.{statement}
 use Rattle.elements.proofs.either.Tie as tie
 
 returns : tie.Need-returns
-returns c = or-below (c .args .a) (c .args .b)
+returns c k = or-below (c .args .a) (c .args .b) k
 
 pub either-spec : {M : Type 1} → statement M
 either-spec = tie.close (tie.spec returns)

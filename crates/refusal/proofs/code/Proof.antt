@@ -86,6 +86,9 @@ enum-told-26 c = search needs
 enum-told-27 : tie.Need-enum-told-27
 enum-told-27 c = search needs
 
+enum-told-28 : tie.Need-enum-told-28
+enum-told-28 c = search needs
+
 returns : tie.Need-returns
 returns c = sym (ap codeOf (c .enum-told .given .1))
 
@@ -167,6 +170,9 @@ returns-26 c = sym (ap codeOf (c .enum-told26 .given .1))
 returns-27 : tie.Need-returns-27
 returns-27 c = sym (ap codeOf (c .enum-told27 .given .1))
 
+returns-28 : tie.Need-returns-28
+returns-28 c = sym (ap codeOf (c .enum-told28 .given .1))
+
 pub code-spec : {M : Type 1} → statement M
 code-spec =
     tie.close
@@ -198,6 +204,7 @@ code-spec =
     enum-told-25
     enum-told-26
     enum-told-27
+    enum-told-28
     returns
     returns-2
     returns-3
@@ -224,4 +231,5 @@ code-spec =
     returns-24
     returns-25
     returns-26
-    returns-27)
+    returns-27
+    returns-28)
