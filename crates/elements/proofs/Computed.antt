@@ -38,7 +38,7 @@ pub record Computed : Type 0 where
   pub last-minus-nan : valueCheck 2 5 (negsuc 0) ≡ Refused Fp16Nan 5
   pub least-nan : inOrder (valueChecks 2 (pos 200 ∷ pos 31744 ∷ negsuc 0 ∷ pos 31745 ∷ [])) ≡ Refused Fp16Nan 2
   -- int16 takes these patterns, int8 refuses them by 7
-  pub no-nan : inOrder (valueChecks 1 (pos 31745 ∷ pos 32767 ∷ negsuc 1022 ∷ negsuc 0 ∷ [])) ≡ Accepted
+  pub int16-taken : inOrder (valueChecks 1 (pos 31745 ∷ pos 32767 ∷ negsuc 1022 ∷ negsuc 0 ∷ [])) ≡ Accepted
   pub int8-first : inOrder (valueChecks 0 (negsuc 0 ∷ pos 31745 ∷ [])) ≡ Refused Int8Range 1
   -- 2 before 7 and 26: no code of a precision, and an element that int8 or fp16 does not take
   pub unknown-nan : inOrder (precisionChecks 3 (negsuc 0 ∷ [])) ≡ Refused Precision 0
@@ -72,7 +72,7 @@ computed =
       first-minus-nan = refl;
       last-minus-nan = refl;
       least-nan = refl;
-      no-nan = refl;
+      int16-taken = refl;
       int8-first = refl;
       unknown-nan = refl;
       known-nan = refl;

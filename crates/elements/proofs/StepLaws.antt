@@ -3,13 +3,12 @@
 --     read-back                                a 16-bit number as the code reads it
 --     raised-int8, raised-fp16                 the code's number of an element, and whether its precision takes it
 --     limit-int8, limit-other                  the least number with a bit above the low ones
---     refusal-int8, refusal-other              the refusal of an element that a precision does not take
 --     or-below                                 the bits of two numbers
 --     allValid-none, allValid-next             no element yet; one element more
 --     allValid-at, allValid-all                a pass that found no fault took each element, and back
 use Prim.Native.Nat.{ℕ, zero, suc, _+_, _*_, _%_, _^_, _<_, _≤_}
 use mathlib.Core.Path.{_≡_, refl, sym, ap, _∙_}
-use mathlib.Core.Bool.{Bool, true, false, not, _&&_}
+use mathlib.Core.Bool.{Bool, true, not, _&&_}
 use mathlib.Core.List.{List}
 use native.Mathlib.Nat.{not-suc-le-zero, one-le-pow}
 use native.Mathlib.Decide.{decLt, ℕ-discrete}
@@ -25,10 +24,9 @@ use mir.Syntax.{w16}
 use mir.Val.{toZ, ofZ}
 use mir.Facts.{toZ-ofZ}
 use Rattle.general.proofs.TestLaws.{and-true}
-use Rattle.refusal.specs.declared.Refusal.the-variants.{Int8Range, Fp16Nan}
 use Rattle.elements.specs.Bytes.{byteOf}
 use Rattle.elements.specs.Values.{bitPattern, valueValid}
-use Rattle.elements.specs.Steps.{allValid, valueRefusal, lowBits}
+use Rattle.elements.specs.Steps.{allValid, lowBits}
 use Rattle.elements.proofs.ValueLaws.{Valid, valueValid-int8, valueValid-fp16}
 use Rattle.elements.proofs.NanLaws.{isNan-low}
 
@@ -74,15 +72,6 @@ pub limit-other : (p : ℕ) → (p ≡ 0 → ⊥) → 32768 ≡ 2 ^ lowBits p
 unfolding lowBits
 limit-other zero f = absurd (f refl)
 limit-other (suc p) f = refl
-
-pub refusal-int8 : (p : ℕ) → p ≡ 0 → valueRefusal p ≡ Int8Range
-unfolding valueRefusal
-refusal-int8 p e = rw e
-
-pub refusal-other : (p : ℕ) → (p ≡ 0 → ⊥) → valueRefusal p ≡ Fp16Nan
-unfolding valueRefusal
-refusal-other zero f = absurd (f refl)
-refusal-other (suc p) f = refl
 
 -- ---- the bits of two numbers
 

@@ -2,7 +2,7 @@
 --     valueValid-int8, valueValid-fp16         what int8 and fp16 take
 --     valueValid-int16, valueChecks-int16      int16 takes every element
 --     valueValid-fits, fits-valueValid         an element that is valid is a number of the precision's bytes, and back but for fp16
---     valueCheck-is                            the check of one element as a test and its refusal
+--     valueCheck-int8, valueCheck-other        the refusal of an element that is not taken
 --     Valid                                    each of the first n elements is valid
 --     valueChecks-valid, valueChecks-least     what an accepted list, and a refused one, say of its elements
 --     valueChecks-all, valueChecks-first       and back
@@ -20,14 +20,13 @@ use lib.Signed.{mag, leZ}
 use borrow.Author.Tests.{leb-true, le-leb, lt-ltb, le-ltb}
 use Rattle.general.proofs.TestLaws.{and-left, and-both}
 use Rattle.refusal.specs.declared.Refusal.{Refusal}
-use Rattle.refusal.specs.declared.Refusal.the-variants.{Precision}
+use Rattle.refusal.specs.declared.Refusal.the-variants.{Precision, Int8Range, Fp16Nan}
 use Rattle.refusal.specs.declared.Answer.{Answer}
 use Rattle.refusal.specs.declared.Answer.the-variants.{Accepted, Refused}
 use Rattle.refusal.specs.Checks.{requireAt, inOrder, leaves}
-use Rattle.refusal.proofs.CheckLaws.{requireAt-true, requireAt-false, inOrder-nil, inOrder-accepted, inOrder-first, inOrder-next, inOrder-stop, inOrder-held, inOrder-rest}
+use Rattle.refusal.proofs.CheckLaws.{requireAt-true, requireAt-false, inOrder-nil, inOrder-next, inOrder-stop, inOrder-held, inOrder-rest}
 use Rattle.elements.specs.Bytes.{elementBytes, byteOf}
 use Rattle.elements.specs.Values.{bitPattern, isNan, valueCheck, valueValid, valueChecksFrom, valueChecks, precisionChecks}
-use Rattle.elements.specs.Steps.{valueRefusal}
 
 -- ---- one element
 
@@ -49,11 +48,30 @@ pub valueValid-fp16 : (p : ℕ) (z : ℤ) → valueValid (suc (suc p)) z ≡ not
 unfolding valueValid valueCheck
 valueValid-fp16 p z = passes 0 _ _
 
-pub valueCheck-is : (p i : ℕ) (z : ℤ) → valueCheck p i z ≡ requireAt i (valueRefusal p) (valueValid p z)
-unfolding valueCheck valueRefusal
+-- the refusal of an element that a precision does not take
+abbrev valueRefusal : ℕ → Refusal
+valueRefusal zero = Int8Range
+valueRefusal (suc p) = Fp16Nan
+
+valueCheck-is : (p i : ℕ) (z : ℤ) → valueCheck p i z ≡ requireAt i (valueRefusal p) (valueValid p z)
+unfolding valueCheck
 valueCheck-is zero i z = ap (λ (b : Bool). requireAt i (valueRefusal 0) b) (sym (valueValid-int8 z))
 valueCheck-is (suc zero) i z = sym (requireAt-true i (valueRefusal 1) (valueValid-int16 z))
 valueCheck-is (suc (suc p)) i z = ap (λ (b : Bool). requireAt i (valueRefusal 2) b) (sym (valueValid-fp16 p z))
+
+module _ (p i : ℕ) (z : ℤ) (e : valueValid p z ≡ false) where
+  valueCheck-refused : valueCheck p i z ≡ Refused (valueRefusal p) i
+  valueCheck-refused = valueCheck-is p i z ∙ requireAt-false i (valueRefusal p) e
+
+  pub valueCheck-int8 : p ≡ 0 → valueCheck p i z ≡ Refused Int8Range i
+  valueCheck-int8 k = valueCheck-refused ∙ ap (λ (n : ℕ). Refused (valueRefusal n) i) k
+
+  pub valueCheck-other : (p ≡ 0 → ⊥) → valueCheck p i z ≡ Refused Fp16Nan i
+  valueCheck-other f = valueCheck-refused ∙ ap (λ (r : Refusal). Refused r i) (other p f)
+    where
+      other : (n : ℕ) → (n ≡ 0 → ⊥) → valueRefusal n ≡ Fp16Nan
+      other zero g = absurd (g refl)
+      other (suc n) g = refl
 
 valid-mag : (z : ℤ) → leZ (negsuc 127) z && leZ z (pos 127) ≡ true → mag z < 128
 valid-mag (pos n) e = omega (arith, leb-true n 127 e)
@@ -156,7 +174,7 @@ same-fault p zs r i m w e f =
     let number : valueRefusal p ≡ r = cc in
     let v : Faulty p zs i = subst (λ (n : ℕ). Faulty p zs n) same w in (
       v .0,
-      valueCheck-is p i (getD zs i (pos 0)) ∙ requireAt-false i (valueRefusal p) (v .1) ∙ ap (λ (x : Refusal). Refused x i) number,
+      valueCheck-refused p i (getD zs i (pos 0)) (v .1) ∙ ap (λ (x : Refusal). Refused x i) number,
       λ j h. valueCheck-is p j (getD zs j (pos 0)) ∙ requireAt-true j (valueRefusal p) (v .2 j h),
     )
 
@@ -172,16 +190,17 @@ module _ (p : ℕ) (zs : List ℤ) where
   valueChecks-all h = all-from p zero zs h
 
   pub valueChecks-first : (i : ℕ)
-      → i < length zs → Valid p zs i → valueValid p (getD zs i (pos 0)) ≡ false → inOrder (valueChecks p zs) ≡ Refused (valueRefusal p) i
+      → i < length zs → Valid p zs i → valueValid p (getD zs i (pos 0)) ≡ false → inOrder (valueChecks p zs) ≡ valueCheck p i (getD zs i (pos 0))
   unfolding valueChecks
-  valueChecks-first i h before e = first-from p zero zs i h before e ∙ ap (λ (n : ℕ). Refused (valueRefusal p) n) (omega arith)
+  valueChecks-first i h before e =
+      first-from p zero zs i h before e ∙ ap (λ (n : ℕ). Refused (valueRefusal p) n) (omega arith) ∙ sym (valueCheck-refused p i (getD zs i (pos 0)) e)
 
   pub valueChecks-least : (r : Refusal) (i : ℕ) → inOrder (valueChecks p zs) ≡ Refused r i
       → (i < length zs) × (valueCheck p i (getD zs i (pos 0)) ≡ Refused r i) × ((j : ℕ) → j < i → valueCheck p j (getD zs j (pos 0)) ≡ Accepted)
   valueChecks-least r i e =
       ⊎-elim
       (λ all. both-ways (valueChecks-all all) e)
-      (λ w. same-fault p zs r i (w .0) (w .1) (valueChecks-first (w .0) (w .1 .0) (w .1 .2) (w .1 .1)) e)
+      (λ w. same-fault p zs r i (w .0) (w .1) (valueChecks-first (w .0) (w .1 .0) (w .1 .2) (w .1 .1) ∙ valueCheck-refused p (w .0) (getD zs (w .0) (pos 0)) (w .1 .1)) e)
       (look p zs)
 
   pub precisionChecks-unknown : 2 < p → inOrder (precisionChecks p zs) ≡ Refused Precision 0

@@ -4,19 +4,12 @@ use mathlib.Core.Bool.{Bool, true, _&&_}
 use mathlib.Core.List.{List}
 use lib.ListN.{getD}
 use lib.IntN.{ℤ, pos}
-use Rattle.refusal.specs.declared.Refusal.{Refusal}
-use Rattle.refusal.specs.declared.Refusal.the-variants.{Int8Range, Fp16Nan}
 use Rattle.elements.specs.Values.{valueValid}
 
 -- whether a precision takes each of the first n elements
 unfoldable pub allValid : ℕ → List ℤ → ℕ → Bool
 allValid p zs zero = true
 allValid p zs (suc n) = allValid p zs n && valueValid p (getD zs n (pos 0))
-
--- the refusal of an element that a precision does not take; int16 takes every element
-unfoldable pub valueRefusal : ℕ → Refusal
-valueRefusal zero = Int8Range
-valueRefusal (suc p) = Fp16Nan
 
 -- how many low bits the code's number of an element may have set where the precision takes it
 unfoldable pub lowBits : ℕ → ℕ

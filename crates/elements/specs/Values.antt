@@ -21,7 +21,7 @@ unfoldable pub isNan : ℤ → Bool
 isNan z = eqb (bitPattern z / 1024 % 32) 31 && not (eqb (bitPattern z % 1024) 0)
 
 -- which elements a precision takes, and under which number it refuses the others: int8 takes -128..127 (`negsuc 127` is -128), int16 every element, fp16 every
--- element that is not NaN; the check of the element at index i
+-- element that is not NaN (so does a code above 2, which is refused before); the check of the element at index i
 unfoldable pub valueCheck : ℕ → ℕ → ℤ → Answer
 valueCheck zero i z = requireAt i Int8Range (leZ (negsuc 127) z && leZ z (pos 127))
 valueCheck (suc zero) i z = Accepted

@@ -4,11 +4,11 @@ ghost use mathlib.Core.Bool.{false, _&&_};
 ghost use Prim.Native.Nat.{ℕ, _+_, _*_, _/_, _%_, _^_, _<_, _≤_};
 ghost use lib.Dec.{ltb};
 ghost use lib.IntN.{pos, _-ℤ_};
-ghost use lib.ListN.{length};
+ghost use lib.ListN.{length, getD};
 ghost use Rattle.refusal.specs.Checks.{inOrder};
 ghost use Rattle.elements.specs.Bytes.{elementBytes, byteOf, signed};
-ghost use Rattle.elements.specs.Values.{bitPattern, valueValid, valueChecks, precisionChecks};
-ghost use Rattle.elements.specs.Steps.{allValid, valueRefusal, lowBits};
+ghost use Rattle.elements.specs.Values.{bitPattern, valueCheck, valueValid, valueChecks, precisionChecks};
+ghost use Rattle.elements.specs.Steps.{allValid, lowBits};
 use refusal::Answer;
 use refusal::Refusal;
 
@@ -121,7 +121,8 @@ fn all_taken(precision: u32, elements: &[i16]) -> bool
 // The index of the first element that a precision does not take, of which there is one.
 fn first_refused(precision: u32, elements: &[i16]) -> usize
     requires { ⌜ (precision ≡ 1 → ⊥) × (allValid precision (now elements) (length (now elements)) ≡ false) ⌝ }
-    ensures { λ r. ⌜ inOrder (valueChecks precision (now (elements .entry))) ≡ Answer.Refused (valueRefusal precision) r ⌝ }
+    ensures first { λ r. ⌜ inOrder (valueChecks precision (now (elements .entry))) ≡ valueCheck precision r (getD (now (elements .entry)) r (pos 0)) ⌝ }
+    ensures fault { λ r. ⌜ valueValid precision (getD (now (elements .entry)) r (pos 0)) ≡ false ⌝ }
 {
     let mut at: usize = 0;
     while at < elements.len() {

@@ -88,7 +88,7 @@ pub record Computed : Type 0 where
   pub nan-room-first : answerCode (packAnswer (single 2 0) (negsuc 0 ∷ []) 31) ≡ 5
   pub nan : packAnswer (layoutOf 3 1 1 2 96 96 0) (negsuc 1023 ∷ pos 31745 ∷ negsuc 0 ∷ []) 96 ≡ Refused Fp16Nan 1
   pub infinities : answerCode (packAnswer (layoutOf 2 1 1 2 64 64 0) (pos 31744 ∷ negsuc 1023 ∷ []) 64) ≡ 0
-  pub no-nan : answerCode (packAnswer (layoutOf 2 1 1 1 64 64 0) (pos 31745 ∷ negsuc 0 ∷ []) 64) ≡ 0
+  pub int16-taken : answerCode (packAnswer (layoutOf 2 1 1 1 64 64 0) (pos 31745 ∷ negsuc 0 ∷ []) 64) ≡ 0
   -- unpacking, two at once, also 4 and 6, 6 and 5
   pub unpack-double : map (λ (q : CubeLayout). answerCode (unpackAnswer q 0 0)) wrong ≡ 1 ∷ 2 ∷ 3 ∷ 4 ∷ 6 ∷ []
   -- writing a box, two at once, also 4 and 9, 9 and 6; 6 and 5; 5 and 7; 5 and 26; 26 alone
@@ -145,7 +145,7 @@ computed =
       nan-room-first = refl;
       nan = refl;
       infinities = refl;
-      no-nan = refl;
+      int16-taken = refl;
       unpack-double = refl;
       write-double = refl;
       write-count-first = refl;

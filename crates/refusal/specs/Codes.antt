@@ -59,12 +59,12 @@ codeOf PixelOutside = 23
 codeOf ScriptLine = 24
 -- number 0, above 65535 or, save when placing, not the stall's
 codeOf OwnerId = 25
+-- fp16 cell that is NaN
+codeOf Fp16Nan = 26
 -- an image of an fp16 format, or of channels unlike the frame's
 codeOf ImageKind = 29
 -- pixel buffer ends before the last pixel's end
 codeOf PixelLength = 30
--- fp16 cell that is NaN
-codeOf Fp16Nan = 26
 
 -- 0 where the call was accepted, else the refusal's number
 abbrev pub answerCode : Answer → ℕ

@@ -1,19 +1,17 @@
 -- `elements::check_values` meets its contract: an unknown code is refused; int16 takes every element; else all elements are valid, or the first at fault is
 -- found. Assumes nothing.
-use Prim.Native.Nat.{ℕ, _<_}
+use Prim.Native.Nat.{_<_}
 use native.Mathlib.Omega.{arith}
-use mathlib.Core.Path.{_≡_, sym, ap, _∙_}
+use mathlib.Core.Path.{_≡_, sym, _∙_}
 use mathlib.Core.Bool.{true}
-use lib.ListN.{length}
-use Rattle.refusal.specs.declared.Refusal.{Refusal}
-use Rattle.refusal.specs.declared.Refusal.the-variants.{Int8Range, Fp16Nan}
-use Rattle.refusal.specs.declared.Answer.the-variants.{Refused}
+use lib.IntN.{ℤ, pos}
+use lib.ListN.{length, getD}
+use Rattle.refusal.specs.declared.Answer.{Answer}
 use Rattle.refusal.specs.Checks.{inOrder}
-use Rattle.elements.specs.Values.{precisionChecks}
-use Rattle.elements.specs.Steps.{allValid, valueRefusal}
-use Rattle.elements.proofs.ValueLaws.{valueChecks-all, valueChecks-int16, precisionChecks-unknown, precisionChecks-known}
-use Rattle.elements.proofs.StepLaws.{allValid-at, refusal-int8, refusal-other}
-use borrow.Author.Needs.{needs}
+use Rattle.elements.specs.Values.{valueCheck, precisionChecks}
+use Rattle.elements.specs.Steps.{allValid}
+use Rattle.elements.proofs.ValueLaws.{valueCheck-int8, valueCheck-other, valueChecks-all, valueChecks-int16, precisionChecks-unknown, precisionChecks-known}
+use Rattle.elements.proofs.StepLaws.{allValid-at}
 use Rattle.elements.proofs.check_values.Statement.{statement}
 use Rattle.elements.proofs.check_values.Tie as tie
 
@@ -44,19 +42,24 @@ returns-3 c =
 first-refused-requires : tie.Need-first-refused-requires
 first-refused-requires c κs = (c .before .before .if2 .left, sym (c .before .all-taken .ensures) ∙ c .if3 .left)
 
--- the first at fault is told
-at-fault : (c : tie.After-first-refused) (r : Refusal) → (let a = c .before .before .before .before .before .args in
-    valueRefusal (a .precision) ≡ r → Refused r (c .first-refused .result) ≡ inOrder (precisionChecks (a .precision) (a .elements .now)))
-at-fault c r e =
-    let d = c .before .before .before .before in
-    let a = d .before .args in
-    sym (precisionChecks-known (a .precision) (a .elements .now) (known d) ∙ c .first-refused .ensures ∙ ap (λ (x : Refusal). Refused x (c .first-refused .result)) e)
+-- the first at fault is told, by the refusal that its precision has
+abbrev entry : tie.After-first-refused → tie.Start
+entry c = c .before .before .before .before .before
+
+abbrev fault : tie.After-first-refused → ℤ
+fault c = getD (entry c .args .elements .now) (c .first-refused .result) (pos 0)
+
+at-fault : (c : tie.After-first-refused) {r : Answer} → valueCheck (entry c .args .precision) (c .first-refused .result) (fault c) ≡ r
+    → r ≡ inOrder (precisionChecks (entry c .args .precision) (entry c .args .elements .now))
+at-fault c e =
+    let a = entry c .args in
+    sym (precisionChecks-known (a .precision) (a .elements .now) (known (c .before .before .before .before)) ∙ c .first-refused .ensures .0 ∙ e)
 
 returns-4 : tie.Need-returns-4
-returns-4 c = at-fault (c .before) Int8Range (refusal-int8 _ (c .if4 .taken))
+returns-4 c = let d = c .before in at-fault d (valueCheck-int8 (entry d .args .precision) (d .first-refused .result) (fault d) (d .first-refused .ensures .1) (c .if4 .taken))
 
 returns-5 : tie.Need-returns-5
-returns-5 c = at-fault (c .before) Fp16Nan (refusal-other _ (c .if4 .left))
+returns-5 c = let d = c .before in at-fault d (valueCheck-other (entry d .args .precision) (d .first-refused .result) (fault d) (d .first-refused .ensures .1) (c .if4 .left))
 
 pub check-values-spec : {M : Type 1} → statement M
 check-values-spec =

@@ -1,8 +1,8 @@
 -- `elements::first_refused` meets its contract. The loop's invariant: each element before `at` is valid. So an element that is not is the
 -- first at fault, and the loop does not pass them all. The measure is what is left of the length. Assumes nothing.
-use Prim.Native.Nat.{ℕ, _≤_, _-_, _^_}
+use Prim.Native.Nat.{ℕ, _≤_, _-_}
 use mathlib.Core.Path.{_≡_, sym, ap, _∙_}
-use mathlib.Core.Bool.{Bool, true, false}
+use mathlib.Core.Bool.{true}
 use native.Mathlib.Omega.{arith}
 use borrow.Author.Count.{below-none, below-more}
 use borrow.Author.Needs.{needs}
@@ -11,7 +11,7 @@ use lib.Dec.{ltb}
 use lib.IntN.{ℤ, pos}
 use lib.ListN.{length, getD}
 use Rattle.elements.specs.Values.{valueValid}
-use Rattle.elements.specs.Steps.{allValid, lowBits}
+use Rattle.elements.specs.Steps.{allValid}
 use Rattle.elements.proofs.ValueLaws.{Valid, valueChecks-first}
 use Rattle.elements.proofs.StepLaws.{read-back, allValid-all}
 use Rattle.elements.proofs.first_refused.Statement.{statement}
@@ -55,7 +55,7 @@ returns c =
     let l = r .before .before .before .before .loop in
     let a = r .before .before .before .before .before .args in
     let fault = sym (taken r) ∙ le-ltb _ _ (c .if1 .taken) in
-    valueChecks-first (a .precision) (a .elements .now) (l .at) (r .before .before .before .loop-test .taken) (l .inv .1) fault
+    (valueChecks-first (a .precision) (a .elements .now) (l .at) (r .before .before .before .loop-test .taken) (l .inv .1) fault, fault)
 
 add-at : tie.Need-add-at Inv-loop μ-loop
 add-at c = search needs
