@@ -366,10 +366,11 @@ class Board:
             self.table = self.table._replace(slots=regions.with_slot(self.table.slots, given[0], slot))
 
     def check_picture(self):
-        """Asserts that the buffer is the plain picture, packed, and that the slots are its slots."""
+        """Asserts that the buffer is the plain picture, packed, that the slots are its slots, and that fp16 has no NaN."""
         if self.picture:
             assert self.lists["buffer"] == self.picture.packed()
             assert self.table == (self.picture.layout, self.picture.slots)
+            assert self.picture.layout.precision != 2 or not cube.nan_count(self.picture.raw)
 
     # --- values ---
 

@@ -50,7 +50,7 @@ def short(number):
 
 def element_lines(t):
     """The elements of a case, drawn, and the one that is at fault."""
-    yield said("draw elements", t.n, seed(), short(t.base), t.span, 0)
+    yield said("draw elements", t.n, seed(), short(t.base), t.span, t.step)
     if t.fault_index < t.n:
         yield said("set element", t.fault_index, short(t.fault_value))
 

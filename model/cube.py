@@ -1,17 +1,20 @@
 """Feature cubes: checks, positions, packing, and boxes of a cube.
 
-Renders the scope paper's section "Cells and cubes", and of "Refusal numbers"
-the codes 1 to 7 and 9 with their orders. Whole numbers have no width.
+Renders the scope paper's section "Cells and cubes", of "Refusal numbers" the
+codes 1 to 7 and 9, and change request K7 with its code 26, each with the orders
+of these calls. Whole numbers have no width.
 
 A call answers (code, index at fault, ...). The code is 0 if the call is
-accepted; the index is that of the first element out of range for code 7 and 0
-otherwise. Calls leave their arguments alone and hand back contents as they are
-after the call, so a refused call hands back what it was given.
+accepted; the index is that of the first element that is not taken for codes 7
+and 26, and 0 otherwise. Calls leave their arguments alone and hand back contents
+as they are after the call, so a refused call hands back what it was given.
 
 The paper's frame is here a cube layout, its cells are elements, its raw
 picture is a raw tensor, its pads are padding bytes.
 """
 
+import math
+import struct
 from collections import namedtuple
 from itertools import product
 
@@ -137,12 +140,26 @@ def lent_code(q, box, elements, buffer):
     return room_code(q, buffer)
 
 
-def range_check(q, elements):
-    """Check 7: (code, index at fault), the first element outside -128..127 in int8."""
-    if q.precision == 0:
-        for index, element in enumerate(elements):
-            if not -128 <= element <= 127:
-                return 7, index
+def is_past_int8(element):
+    """Whether an element is outside -128..127."""
+    return not -128 <= element <= 127
+
+
+def is_nan(element):
+    """Whether an element's sixteen bits are NaN in fp16: of five for the exponent all are set, of ten for the fraction any.
+
+    Before them stands the sign, which does not matter.
+    """
+    bits = f"{element % 65536:016b}"
+    return bits[1:6] == "11111" and "1" in bits[6:]
+
+
+def element_check(q, elements):
+    """Check 7 in int8, 26 in fp16: (code, index at fault), the first element that is not taken. int16 takes all."""
+    code, is_refused = {0: (7, is_past_int8), 2: (26, is_nan)}.get(q.precision, (0, None))
+    for index, element in enumerate(elements if code else ()):
+        if is_refused(element):
+            return code, index
     return 0, 0
 
 
@@ -156,6 +173,11 @@ def stored_bytes(e, element):
 def stored_element(stored):
     """The signed element that the bytes hold."""
     return int.from_bytes(stored, "little", signed=True)
+
+
+def nan_count(elements):
+    """How many elements are NaN as Python itself reads the halves of floats that they are; no check uses it."""
+    return sum(map(math.isnan, struct.unpack(f"<{len(elements)}e", struct.pack(f"<{len(elements)}h", *elements))))
 
 
 def with_zero_atoms(q, buffer):
@@ -184,10 +206,10 @@ def box_elements(q, box, buffer):
 # --- calls ---
 
 def pack(q, elements, buffer):
-    """Pack a raw tensor: (code, index at fault, buffer after); order 1, 2, 3, 4, 6, 5, 7."""
+    """Pack a raw tensor: (code, index at fault, buffer after); order 1, 2, 3, 4, 6, 5, 7 or 26."""
     code, index = layout_code(q) or lent_code(q, whole_box(q), elements, buffer), 0
     if not code:
-        code, index = range_check(q, elements)
+        code, index = element_check(q, elements)
     if code:
         return code, index, buffer
     return 0, 0, with_elements(q, whole_box(q), elements, with_zero_atoms(q, buffer))
@@ -202,10 +224,10 @@ def unpack(q, elements, buffer):
 
 
 def write_box(q, box, elements, buffer):
-    """Write a box's elements: (code, index at fault, buffer after); order 1 to 4, 9, 6, 5, 7."""
+    """Write a box's elements: (code, index at fault, buffer after); order 1 to 4, 9, 6, 5, 7 or 26."""
     code, index = layout_code(q) or box_code(q, box) or lent_code(q, box, elements, buffer), 0
     if not code:
-        code, index = range_check(q, elements)
+        code, index = element_check(q, elements)
     if code:
         return code, index, buffer
     return 0, 0, with_elements(q, box, elements, buffer)

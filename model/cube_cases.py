@@ -1,14 +1,14 @@
 """The test cases of the cube calls: hand-chosen corners and seeded random layouts.
 
 Renders no rule of its own; the cases stand at the limits named in the scope
-paper's "Cells and cubes" and "Refusal numbers". Each field of a case is
-described in README.md.
+paper's "Cells and cubes" and "Refusal numbers", and in change request K7. Each
+field of a case is described in README.md.
 """
 
 import random
 from itertools import combinations, product
 
-from cases import case_type, lent_case, with_changes
+from cases import FP16_EDGES, INFINITIES, NAN_DRAWS, NANS, case_type, lent_case, with_changes
 from cube import ATOM, U32_MAX, Box, CubeLayout, extent_bytes, whole_box
 
 CubeCase = case_type("CubeCase",
@@ -18,6 +18,7 @@ PACK, UNPACK, WRITE_BOX, READ_BOX, POSITION, EXTENT = range(6)
 
 EXAMPLE = CubeLayout(3, 2, 40, 0, 128, 256, 0)
 INT16_EXAMPLE = CubeLayout(3, 2, 20, 1, 128, 256, 32)
+FP16_EXAMPLE = INT16_EXAMPLE._replace(precision=2)
 CHANNELS = (1, 2, 15, 16, 17, 31, 32, 33, 63, 64, 65)
 
 
@@ -186,13 +187,33 @@ def int8_ranges():
 
 
 def int16_ranges():
-    """The same elements are taken in int16 and fp16; reading int8 ignores what the elements were."""
+    """The same elements are taken in int16; reading int8 ignores what the elements were."""
     for value in (0, 32639, 32640, 32895, 32896, 65535):
         yield whole(PACK, INT16_EXAMPLE, fault_index=7, fault_value=value)
-    for value in (31745, 32256, 64512, 64513, 65535, 0):
-        yield whole(PACK, INT16_EXAMPLE._replace(precision=2), fault_index=0, fault_value=value)
     for op in (UNPACK, READ_BOX):
         yield whole(op, EXAMPLE, fault_index=5, fault_value=65535)
+
+
+def fp16_ranges():
+    """Elements about the borders of NaN: the least index is named, infinity is taken. Other precisions, and reads."""
+    box = Box(14, 0, 1, 5, 2, 2)
+    for i, value in enumerate(FP16_EDGES):
+        yield whole(PACK, FP16_EXAMPLE, fault_index=(0, 57, 119)[i % 3], fault_value=value)
+        yield lent(WRITE_BOX, FP16_EXAMPLE, box, fault_index=(0, 7, 19)[i % 3], fault_value=value)
+    for value in INFINITIES + NANS:
+        # taken in int16; in int8 all but -1 are past the range
+        for q in (INT16_EXAMPLE, EXAMPLE):
+            yield whole(PACK, q, fault_index=57, fault_value=value)
+            yield lent(WRITE_BOX, q, box, fault_index=7, fault_value=value)
+        yield whole(UNPACK, FP16_EXAMPLE, fault_index=57, fault_value=value)
+        yield lent(READ_BOX, FP16_EXAMPLE, box, fault_index=7, fault_value=value)
+    for q in (FP16_EXAMPLE, INT16_EXAMPLE, layout(4, 4, 33, 2)):
+        for i, draw in enumerate(NAN_DRAWS):
+            yield whole(PACK, q, **draw)
+            yield lent(WRITE_BOX, q, box, **draw)
+            # one more, before or behind the first that was drawn
+            yield whole(PACK, q, **draw, fault_index=i, fault_value=NANS[i])
+            yield lent(WRITE_BOX, q, box, **draw, fault_index=19 - i, fault_value=NANS[i])
 
 
 def wrong_boxes():
@@ -214,20 +235,21 @@ def wrong_boxes():
 FAULTS = {1: {"channels": 8193}, 2: {"precision": 3}, 3: {"line": 64}, 4: {"start": 33},
           9: {"nh": 3}, 6: {"n": 241}, 5: {"m": 479},
           7: {"fault_index": 9, "fault_value": 32896}}
+FP16_FAULTS = {**FAULTS, 6: {"n": 121}, 5: {"m": 511}, 26: {"fault_index": 9, "fault_value": NANS[1]}}
 ORDERS = {PACK: (1, 2, 3, 4, 6, 5, 7), UNPACK: (1, 2, 3, 4, 6, 5),
           WRITE_BOX: (1, 2, 3, 4, 9, 6, 5, 7), READ_BOX: (1, 2, 3, 4, 9, 6, 5),
           POSITION: (1, 2, 3, 4, 9), EXTENT: (1, 2, 3, 4)}
 
 
-def with_faults(op, codes):
+def with_faults(op, codes, q=EXAMPLE, faults=FAULTS):
     """A call on the example that has the fault of each code."""
-    changes = {name: value for code in codes for name, value in FAULTS[code].items()}
+    changes = {name: value for code in codes for name, value in faults[code].items()}
     if op == POSITION and 9 in codes:
         changes["h"] = 2
     if op in (POSITION, EXTENT):
         changes.pop("nh", None)
-        return asked(op, EXAMPLE, **changes)
-    return whole(op, EXAMPLE, **{"m": 600, **changes})
+        return asked(op, q, **changes)
+    return whole(op, q, **{"m": 600, **changes})
 
 
 def many_faults():
@@ -240,6 +262,14 @@ def many_faults():
     for op in (UNPACK, WRITE_BOX, READ_BOX, POSITION, EXTENT):
         for i in range(len(ORDERS[op]) - 1):
             yield with_faults(op, ORDERS[op][i:])
+
+
+def nan_faults():
+    """NaN alone, with each fault that comes before it, and with all later ones: 26 stands at 7's place."""
+    for op in (PACK, WRITE_BOX):
+        before = ORDERS[op][:-1]
+        for codes in ((), *((code,) for code in before), *(before[i:] for i in range(len(before) - 1))):
+            yield with_faults(op, (*codes, 26), FP16_EXAMPLE, FP16_FAULTS)
 
 
 # --- sizes past 32 bits ---
@@ -362,8 +392,8 @@ def random_cases():
 # --- the list ---
 
 GROUPS = (accepted_whole, accepted_ones, accepted_large, accepted_boxes, wrong_sizes, wrong_precisions,
-          strides, starts, lent_counts, int8_ranges, int16_ranges, wrong_boxes, many_faults, huge,
-          wrapping, positions, random_cases)
+          strides, starts, lent_counts, int8_ranges, int16_ranges, fp16_ranges, wrong_boxes, many_faults,
+          nan_faults, huge, wrapping, positions, random_cases)
 
 
 def all_cases():

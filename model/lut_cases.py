@@ -19,7 +19,7 @@ from quantize import saturate
 XCase = case_type("XCase", "mode number start end below_scale below_shift above_scale above_shift")
 YCase = case_type("YCase", "select start end below_scale below_shift above_scale above_shift")
 PriorityCase = case_type("PriorityCase", "priority overflow underflow x_only y_only below above both")
-TableCase = case_type("TableCase", "step")
+TableCase = case_type("TableCase", "")
 RunCase = case_type("RunCase", " ".join(f"sample{k}" for k in range(OWN_NUMBERS)))
 
 X_SETTINGS, Y_SETTINGS, PRIORITIES, X_TABLE, Y_TABLE, RUN = range(11, 17)
@@ -60,7 +60,7 @@ def setup_lines(setup):
 
 def table(count, step, base=32768, span=1, **changes):
     """The entries base, base + step and so on, 32768 for 0, each a random number below span higher."""
-    t = TableCase(X_TABLE, step % 65536, n=count, base=base, span=span, fault_index=count)
+    t = TableCase(X_TABLE, n=count, base=base, span=span, step=step % 65536, fault_index=count)
     return t._replace(**changes)
 
 

@@ -1,8 +1,9 @@
 """Region tables: placing and releasing regions of a cube, editing and reading boxes of a region.
 
 Renders the scope paper's sections "Stalls" and "The plain picture", of "Refusal
-numbers" the codes 8, 9 and 10, and change request K1 with its code 25, each with
-the orders of these calls. Whole numbers have no width; answers are as in cube.py.
+numbers" the codes 8, 9 and 10, and change requests K1 with its code 25 and K7
+with its 26, each with the orders of these calls. Whole numbers have no width;
+answers are as in cube.py.
 
 The paper's desk is here a region table, its stalls are regions, its frame is a
 cube layout, a pupil's number is an owner id, and leaving is a release. Every rule
@@ -12,8 +13,8 @@ anew at each call.
 
 from collections import namedtuple
 
-from cube import (Box, box_code, box_elements, element_position, layout_code, lent_code, pack,
-                  range_check, room_code, with_elements)
+from cube import (Box, box_code, box_elements, element_check, element_position, layout_code, lent_code, pack,
+                  room_code, with_elements)
 
 Rectangle = namedtuple("Rectangle", "column row columns rows")
 Slot = namedtuple("Slot", "placed owner rectangle")
@@ -98,9 +99,9 @@ def read_code(q, slots, n, owner, box, elements, buffer):
 
 
 def edit_check(q, slots, n, owner, box, elements, buffer):
-    """Checks 1 to 4, 8, 25, 9, 6, 5, 7 of an edit: (code, index at fault)."""
+    """Checks 1 to 4, 8, 25, 9, 6, 5, 7 or 26 of an edit: (code, index at fault)."""
     code = read_code(q, slots, n, owner, box, elements, buffer)
-    return (code, 0) if code else range_check(q, elements)
+    return (code, 0) if code else element_check(q, elements)
 
 
 def count_code(q, slots, n, owner):
@@ -109,7 +110,7 @@ def count_code(q, slots, n, owner):
 
 
 def release_code(q, slots, n, owner, buffer):
-    """Checks 1 to 4, 8, 25, 9, 5 of a release: an edit's, without 6 and 7."""
+    """Checks 1 to 4, 8, 25, 9, 5 of a release: an edit's, without 6, 7 and 26."""
     return count_code(q, slots, n, owner) or room_code(q, buffer)
 
 

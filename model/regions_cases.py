@@ -1,16 +1,16 @@
 """The test cases of the region tables: seeded sessions of placings, edits, reads and releases.
 
 Renders no rule of its own; the sessions stand at the limits named in the scope
-paper's "Stalls" and "Refusal numbers", and in change request K1. Each field of a
-line is described in README.md. A session is a list of lines that begins with a
-packing.
+paper's "Stalls" and "Refusal numbers", and in change requests K1 and K7. Each
+field of a line is described in README.md. A session is a list of lines that
+begins with a packing.
 """
 
 import random
 from collections import namedtuple
 from itertools import product
 
-from cases import case_type, lent_case
+from cases import ANY_ELEMENT, FP16_EDGES, NAN_DRAWS, NANS, accepted, case_type, lent_case
 from cube import ATOM, ELEMENT_BYTES, U32_MAX, Box, CubeLayout, extent_bytes
 from cube_cases import layout
 from regions import ID_MAX, SLOT_COUNT, Rectangle, whole_region
@@ -33,6 +33,9 @@ NO_SLOTS = (16, 17, 31, 32, 256, 65536, U32_MAX)
 NO_IDS = (0, ID_MAX + 1, 70000, 131072, 2147483648, U32_MAX)
 PUPILS = (1, 2, 3, 7, 255, 256, 4464, 32768, ID_MAX - 1, ID_MAX)
 PAST_INT8 = (0, 32639, 32896, 65535)
+# what int8 and fp16 do not take; int16 takes all. 32767 is past int8 and NaN in fp16
+NOT_TAKEN = {0: PAST_INT8, 1: PAST_INT8, 2: NANS}
+PAST_BOTH = 65535
 UNIT_BOX = Box(0, 0, 0, 1, 1, 1)
 
 
@@ -56,10 +59,10 @@ def placed(slot, g, owner=None):
 
 def boxed(op, q, slot, box, **changes):
     """An edit or read by the usual owner with as many elements as the box has, then changed."""
-    base, span = (32640, 256) if op == EDIT and q.precision == 0 else (0, 65536)
     count = min(box.channels * box.rows * box.columns, SESSION_ELEMENTS_MAX)
-    t = BoxCase(op, slot, usual(slot), *[0] * 5, *box, n=count, base=base, span=span,
-                fault_index=U32_MAX)._replace(**changes)
+    contents = accepted(q.precision, slot + count) if op == EDIT else ANY_ELEMENT
+    t = BoxCase(op, slot, usual(slot), *[0] * 5, *box, n=count, fault_index=U32_MAX,
+                **contents)._replace(**changes)
     return t if t.fault_index < t.n else t._replace(fault_index=t.n)
 
 
@@ -203,7 +206,7 @@ def other_id(rng, seats, slot):
 
 
 def faulty_call(rng, q, seats):
-    """An edit or read with one or two faults of 8, 25, 9, 6, 7 (7 is none in a read, nor past int8)."""
+    """An edit or read with one or two faults of 8, 25, 9, 6, 7 (26 in fp16; none in a read, nor in int16)."""
     slot, op = rng.choice(sorted(seats)), rng.choice((EDIT, EDIT, READ))
     owner, g = seats[slot]
     box = some_box(rng, q, g)
@@ -217,9 +220,9 @@ def faulty_call(rng, q, seats):
         t = t._replace(n=min(max(0, count), SESSION_ELEMENTS_MAX), fault_index=U32_MAX)
     if 7 in kinds and t.n:
         index = rng.choice((0, t.n - 1, rng.randrange(t.n), rng.randrange(t.n)))
-        t = t._replace(fault_index=index, fault_value=rng.choice(PAST_INT8))
-        if op == EDIT and q.precision == 0 and rng.random() < 0.3:
-            t = t._replace(base=32630, span=276)
+        t = t._replace(fault_index=index, fault_value=rng.choice(NOT_TAKEN[q.precision]))
+        if op == EDIT and q.precision != 1 and rng.random() < 0.3:
+            t = t._replace(**({"base": 32630, "span": 276} if q.precision == 0 else NAN_DRAWS[0]))
     return t if t.fault_index < t.n else t._replace(fault_index=t.n)
 
 
@@ -521,7 +524,7 @@ def hand_layouts(precision):
             yield released(2)
         yield hand_layout(q._replace(**faults[precision % len(faults)]))
         yield placed(16, Rectangle(0, 0, 0, 0), 0)
-        yield from both(q, 3, box._replace(rows=0), n=3, fault_index=1, fault_value=0)
+        yield from both(q, 3, box._replace(rows=0), n=3, fault_index=1, fault_value=PAST_BOTH)
         yield from asked(2, owner=0)
         yield released(16, 0)
     for changes in ({"precision": 3, "start": 1, "channels": 0}, {"precision": 9, "line": 33},
@@ -531,7 +534,7 @@ def hand_layouts(precision):
         yield placed(2, g)
     yield hand_layout(q)
     yield from both(q, 2, box)
-    # longer than the buffer: placing asks for no buffer; 6 comes before 5, 5 before 7
+    # longer than the buffer: placing asks for no buffer; 6 comes before 5, 5 before 7 and 26
     for slot, longer in third(enumerate((
             q._replace(start=96 + 32), q._replace(start=4294967264), q._replace(surface=q.surface + 96),
             q._replace(height=64, surface=32 * 320), q._replace(surface=4294967264),
@@ -542,7 +545,7 @@ def hand_layouts(precision):
         yield placed(4 + slot, Rectangle(0 if slot % 2 else 4, slot // 2, 1, 1))
         yield from both(longer, 2, UNIT_BOX)
         yield from both(longer, 2, UNIT_BOX, n=2)
-        yield boxed(EDIT, longer, 2, UNIT_BOX, fault_index=0, fault_value=0)
+        yield boxed(EDIT, longer, 2, UNIT_BOX, fault_index=0, fault_value=PAST_BOTH)
         yield from both(longer, 2, UNIT_BOX._replace(w=3))
         yield from asked(2)
         yield released(2)
@@ -569,7 +572,8 @@ def refused_begins(precision):
     changed += [{"n": 314}, {"m": q.start + extent_bytes(q) - 1}, {"n": 0}, {"m": 0},
                 {"n": 316, "m": 5}]
     changed = third(changed, precision)
-    changed += [{"fault_index": 0, "fault_value": 0}, {"fault_index": 314, "fault_value": 65535}]
+    changed += [{"fault_index": 0, "fault_value": NOT_TAKEN[precision][0]},
+                {"fault_index": 314, "fault_value": PAST_BOTH}]
     for i, changes in enumerate(changed):
         yield begin(q, 40, **changes)
         yield boxed(READ, q, 6, UNIT_BOX)
@@ -587,27 +591,82 @@ def refused_begins(precision):
     yield from both(q, 6, whole_region(q, g))
 
 
-def int8_edges(precision):
-    """Elements on and past the edges of int8: the least index in the box's raw order is named."""
+def edges(precision):
+    """Elements on and past the edges of int8, or of fp16's NaN: the least index in the box's raw order is named."""
     q = layout(6, 3, 40, precision, 0, 0, 0)
     g = Rectangle(2, 0, 3, 3)
+    values, draws = NANS, NAN_DRAWS
+    if precision != 2:
+        values = (32639, 32640, 32895, 32896)
+        spans = (32639, 257), (32640, 259), (32640, 257), (32630, 270)
+        draws = [*({"base": base, "span": span} for base, span in spans), ANY_ELEMENT]
     yield begin(q)
     yield placed(11, g)
-    for box in (Box(31, 1, 1, 2, 2, 2), whole_region(q, g))[:1 if precision else 2]:
+    for box in (Box(31, 1, 1, 2, 2, 2), whole_region(q, g))[:2 if precision == 0 else 1]:
         count = box.channels * box.rows * box.columns
-        for index, value in product((0, 1, count // 2, count - 1, count), (32639, 32640, 32895, 32896)):
+        for index, value in product((0, 1, count // 2, count - 1, count), values):
             yield boxed(EDIT, q, 11, box, fault_index=index, fault_value=value)
-        for base, span in ((32639, 257), (32640, 257), (32630, 270), (0, 65536)):
-            yield boxed(EDIT, q, 11, box, base=base, span=span)
-        yield boxed(EDIT, q, 11, box, base=32640, span=259, fault_index=count - 1, fault_value=0)
-        yield boxed(READ, q, 11, box, fault_index=0, fault_value=65535)
+        for draw in draws:
+            yield boxed(EDIT, q, 11, box, **draw)
+        yield boxed(EDIT, q, 11, box, **draws[1], fault_index=count - 1, fault_value=PAST_BOTH)
+        yield boxed(READ, q, 11, box, fault_index=0, fault_value=PAST_BOTH)
     yield boxed(READ, q, 11, whole_region(q, g))
+    for i, value in enumerate(FP16_EDGES):
+        yield boxed(EDIT, q, 11, Box(i, 1, 0, 2, 1, 3), fault_index=i % 6, fault_value=value)
+    yield boxed(READ, q, 11, whole_region(q, g))
+
+
+def last_in_order(precision):
+    """An element that int8 and fp16 do not take, with each fault that comes before it: 7 or 26 is last."""
+    q = layout(5, 3, 18, precision, 1, 0, 32)
+    g, box = Rectangle(1, 0, 3, 3), Box(14, 1, 0, 4, 2, 3)
+    wrong = {"fault_index": 7, "fault_value": PAST_BOTH}
+    yield begin(q, 32)
+    yield placed(4, g)
+    yield from both(q, 4, box)
+    for changes in ({"n": 23}, {"n": 25}, {"nc": 5}, {"nh": 0}, {"w": 1}, {"owner": 0}, {"owner": 65540}, {"slot": 5},
+                    {"slot": 16}, {"slot": 5, "owner": 0, "nh": 0, "n": 25}, {"owner": 0, "nh": 0, "n": 25},
+                    {"nh": 0, "n": 25}, {}):
+        yield boxed(EDIT, q, 4, box, **wrong)._replace(**changes)
+        yield boxed(READ, q, 4, box)
+    for changes in ({"start": 96}, {"start": 16}, {"surface": 32}, {"precision": 3}, {"width": 0}, {"start": 64}):
+        yield hand_layout(q._replace(**changes))
+        yield boxed(EDIT, q, 4, box, **wrong)
+        yield boxed(EDIT, q, 4, box, **wrong, n=25)
+        yield boxed(EDIT, q, 5, box, **wrong)
+        yield from both(q, 4, box)
+
+
+def old_buffers(precision):
+    """Tables made by hand over drawn bytes and over int16: in fp16 reads give NaN, edits and releases write there."""
+    rng = random.Random(89 + precision)
+    for q, g in ((layout(12, 5, 17, precision, 1, 1, 32), Rectangle(2, 1, 9, 4)),
+                 (layout(4, 3, 40, precision, 0, 2, 64), Rectangle(0, 0, 4, 3))):
+        whole = whole_region(q, g)
+        part = whole._replace(c=1, channels=q.channels - 1, h=1, rows=g.rows - 1)
+        # the first packing lends no elements and is refused
+        for packing in (begin(q, 40, n=0), begin(q._replace(precision=1), 40, **NAN_DRAWS[0])):
+            yield packing
+            yield hand_layout(q)
+            yield hand_slot(7, 1, *g)
+            yield boxed(READ, q, 7, whole)
+            yield boxed(EDIT, q, 7, part, fault_index=5, fault_value=PAST_BOTH)
+            for _ in range(10):
+                yield boxed(READ, q, 7, some_box(rng, q, g))
+                yield boxed(EDIT, q, 7, some_box(rng, q, g)._replace(c=0, channels=1))
+            yield from calls(rng, q, {7: Seat(usual(7), g)}, 8, leaves=False)
+            yield boxed(READ, q, 7, whole)
+            yield boxed(EDIT, q, 7, part)
+            yield boxed(READ, q, 7, whole)
+            yield released(7)
+            yield placed(8, g)
+            yield boxed(READ, q, 8, whole)
 
 
 # --- the list ---
 
 SESSIONS = (parlours, patchworks, touching, absurd_slots, left_over, owners, leavings, wide, overlapping,
-            hand_layouts, refused_begins, int8_edges)
+            hand_layouts, refused_begins, edges, last_in_order, old_buffers)
 
 
 def all_cases():

@@ -10,7 +10,7 @@ cube. Whole numbers have no width, but a walk's sums have 64 bits.
 from collections import namedtuple
 from itertools import product
 
-from cube import ATOM, element_bytes, extent_bytes, layout_code, range_check, stored_bytes, surface_count
+from cube import ATOM, element_bytes, element_check, extent_bytes, layout_code, stored_bytes, surface_count
 
 # position and index are the next atom's and its first element's; columns, rows and channels are left, that atom
 # counted; line, surface and group are strides (first_walk)
@@ -78,14 +78,14 @@ def first_walk(q):
 
 
 def start(q, elements, length):
-    """A start over a buffer of so many bytes: (code, index at fault, first walk or None); order 1, 2, 3, 4, 6, 5, 7."""
+    """A start over a buffer of so many bytes: (code, index at fault, first walk or None); order 1, 2, 3, 4, 6, 5, 7 or 26."""
     code, index = layout_code(q), 0
     if not code and len(elements) != q.width * q.height * q.channels:
         code = 6
     if not code and q.start + extent_bytes(q) > length:
         code = 5
     if not code:
-        code, index = range_check(q, elements)
+        code, index = element_check(q, elements)
     return code, index, None if code else first_walk(q)
 
 

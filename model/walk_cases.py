@@ -1,16 +1,17 @@
 """The test cases of walks over a cube's atoms: corners, large and drawn cubes, steps of walks made by hand.
 
 Renders no rule of its own; the cases stand at the limits named in the scope
-paper's "Cells and cubes", in change request K6 and in open point 27. Each field
-of a case is described in README.md: of a step, the twelve numbers of its walk.
+paper's "Cells and cubes", in change requests K6 and K7 and in open point 27. Each
+field of a case is described in README.md: of a step, the twelve numbers of its walk.
 """
 
 import random
 from itertools import combinations, product
 
-from cases import case_type, nearby
+from cases import ANY_ELEMENT, FP16_EDGES, INFINITIES, NAN_DRAWS, NANS, accepted, case_type, nearby
 from cube import ATOM, U32_MAX, CubeLayout, extent_bytes
-from cube_cases import CHANNELS, EXAMPLE, FAULTS, INT16_EXAMPLE, layout, random_layout
+from cube_cases import (CHANNELS, EXAMPLE, FAULTS, FP16_EXAMPLE, FP16_FAULTS, INT16_EXAMPLE, layout,
+                        random_layout)
 from walk import U64_SIZE, Walk, first_walk, step
 
 WalkCase = case_type("WalkCase", "width height channels precision line surface start")
@@ -29,17 +30,11 @@ ORDER = (1, 2, 3, 4, 6, 5, 7)
 
 # --- building cases ---
 
-def contents(precision):
-    """What elements are drawn from: all that packing accepts."""
-    base, span = (32640, 256) if precision == 0 else (0, 65536)
-    return {"base": base, "span": span}
-
-
 def walked(q, more=0, **changes):
     """A walk over a cube whose elements are lent, with a buffer `more` bytes longer than needed, then changed."""
     n, m = q.width * q.height * q.channels, q.start + extent_bytes(q) + more
     t = WalkCase(WALK, *q, n=min(n, ELEMENTS_MAX), m=min(m, BUFFER_MAX), fault_index=U32_MAX,
-                 **contents(q.precision))._replace(**changes)
+                 **accepted(q.precision, n + m // 32))._replace(**changes)
     return t if t.fault_index < t.n else t._replace(fault_index=t.n)
 
 
@@ -49,8 +44,8 @@ def beside(*given, **changes):
 
 
 def lent(n, precision=1):
-    """Elements for the steps that follow."""
-    return ElementsCase(LEND, n=n, fault_index=n, **contents(precision))
+    """Elements for the steps that follow: they refuse nothing, so those of fp16 are NaN now and then."""
+    return ElementsCase(LEND, n=n, fault_index=n, **(accepted(0, 0) if precision == 0 else ANY_ELEMENT))
 
 
 def stepped(walk, **changes):
@@ -91,7 +86,7 @@ def large():
 
 def lengths():
     """Buffers of just enough bytes, one more and one too few; element counts one off; nothing lent."""
-    for q in (EXAMPLE, INT16_EXAMPLE, INT16_EXAMPLE._replace(precision=2), layout(1, 1, 1, 0),
+    for q in (EXAMPLE, INT16_EXAMPLE, FP16_EXAMPLE, layout(1, 1, 1, 0),
               layout(2, 3, 33, 0, 1, 1, 64)):
         exact = beside(q)
         yield exact
@@ -104,10 +99,10 @@ def lengths():
 
 # --- walks that are refused ---
 
-def with_faults(codes):
+def with_faults(codes, q=EXAMPLE, faults=FAULTS):
     """A walk over the example that has the fault of each code."""
-    changes = {name: value for code in codes for name, value in FAULTS[code].items()}
-    return beside(EXAMPLE, **{"m": 600, **changes})
+    changes = {name: value for code in codes for name, value in faults[code].items()}
+    return beside(q, **{"m": 600, **changes})
 
 
 def faults():
@@ -118,6 +113,13 @@ def faults():
         yield with_faults(pair)
     for i in range(len(ORDER) - 2):
         yield with_faults(ORDER[i:])
+
+
+def nan_faults():
+    """NaN alone, with each fault that comes before it, and with all later ones: 26 stands at 7's place."""
+    before = ORDER[:-1]
+    for codes in ((), *((code,) for code in before), *(before[i:] for i in range(len(before) - 1))):
+        yield with_faults((*codes, 26), FP16_EXAMPLE, FP16_FAULTS)
 
 
 def limits():
@@ -136,13 +138,35 @@ def limits():
 
 
 def ranges():
-    """int8 elements on and past their edges, the least index at fault; the other precisions take all."""
+    """int8 elements on and past their edges, the least index at fault; int16 takes all."""
     for index, value in ((0, -129), (0, -128), (119, 127), (119, 128), (239, 128), (239, -32768), (239, 32767)):
         yield beside(EXAMPLE, fault_index=index, fault_value=value + 32768)
-    for precision, value in product((1, 2), (-32768, -129, 128, 31745, 32767)):
-        yield beside(INT16_EXAMPLE._replace(precision=precision), fault_index=7, fault_value=value + 32768)
+    for value in (-32768, -129, 128, 31745, 32767):
+        yield beside(INT16_EXAMPLE, fault_index=7, fault_value=value + 32768)
     for base, span in ((32568, 400), (32640, 257), (32639, 257), (32630, 270)):
         yield beside(layout(4, 4, 33, 0), base=base, span=span)
+
+
+def fp16_ranges():
+    """fp16 elements about the borders of NaN, the least index at fault; infinity is taken. Other precisions."""
+    for i, value in enumerate(FP16_EDGES):
+        yield beside(FP16_EXAMPLE, fault_index=(0, 57, 119)[i % 3], fault_value=value)
+    for q, value in product((INT16_EXAMPLE, EXAMPLE), INFINITIES + NANS):
+        yield beside(q, fault_index=57, fault_value=value)
+    for q in (FP16_EXAMPLE, INT16_EXAMPLE, layout(4, 4, 33, 2)):
+        for i, draw in enumerate(NAN_DRAWS):
+            yield beside(q, **draw)
+            # one more, before or behind the first that was drawn
+            yield beside(q, **draw, fault_index=i, fault_value=NANS[i])
+            yield beside(q, **draw, fault_index=119 - i, fault_value=NANS[i])
+    # lists of each length, the last one NaN
+    for n in (*range(1, 36), 63, 64, 65, 127, 128, 129):
+        yield beside(layout(1, 1, n, 2), fault_index=n - 1, fault_value=NANS[n % 4])
+    # every element that fp16 takes, of one sign and of the other; then one NaN at the end
+    for base in (0, 32768):
+        every = beside(layout(907, 7, 5, 2), base=base, span=1, step=1)
+        yield every
+        yield every._replace(fault_index=every.n - 1, fault_value=base + 31745)
 
 
 # --- drawn walks ---
@@ -186,7 +210,7 @@ def random_walks():
 
 def whole_scans():
     """Every step of some walks, one after another, and two more at the end."""
-    for q in (EXAMPLE, INT16_EXAMPLE, INT16_EXAMPLE._replace(precision=2), layout(1, 1, 1, 0), layout(3, 1, 33, 0),
+    for q in (EXAMPLE, INT16_EXAMPLE, FP16_EXAMPLE, layout(1, 1, 1, 0), layout(3, 1, 33, 0),
               layout(1, 3, 17, 2, 1, 1, 32), layout(2, 2, 100, 1, 0, 2)):
         yield lent(q.width * q.height * q.channels, q.precision)
         walk = first_walk(q)
@@ -270,8 +294,8 @@ def random_steps():
 
 # --- the list ---
 
-GROUPS = (borders, ones, large, lengths, faults, limits, ranges, random_walks, whole_scans, no_atoms, precisions,
-          missing, sums, random_steps)
+GROUPS = (borders, ones, large, lengths, faults, nan_faults, limits, ranges, fp16_ranges, random_walks, whole_scans,
+          no_atoms, precisions, missing, sums, random_steps)
 
 
 def all_cases():

@@ -1,14 +1,14 @@
 """Direct-convolution weights: checks, element numbers, packing and unpacking.
 
 Renders the scope paper's section "Weights", and of "Refusal numbers" the codes
-1, 2, 6, 5, 7 in the order of weights. Answers are as in cube.py. A surface of
+1, 2, 6, 5, 7, and change request K7's 26, in the order of weights. Answers are as in cube.py. A surface of
 weights begins at byte 0 of its buffer.
 """
 
 from collections import namedtuple
 from itertools import product
 
-from cube import ELEMENT_BYTES, SIZE_MAX, element_bytes, range_check, stored_bytes, stored_element
+from cube import ELEMENT_BYTES, SIZE_MAX, element_bytes, element_check, stored_bytes, stored_element
 
 WeightLayout = namedtuple("WeightLayout", "kernels channels height width precision")
 
@@ -77,10 +77,10 @@ def lent_code(q, elements, buffer):
 # --- calls ---
 
 def pack(q, elements, buffer):
-    """Pack raw weights: (code, index at fault, buffer after); order 1, 2, 6, 5, 7."""
+    """Pack raw weights: (code, index at fault, buffer after); order 1, 2, 6, 5, 7 or 26."""
     code, index = layout_code(q) or lent_code(q, elements, buffer), 0
     if not code:
-        code, index = range_check(q, elements)
+        code, index = element_check(q, elements)
     if code:
         return code, index, buffer
     surface = bytearray(filled_bytes(q))

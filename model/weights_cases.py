@@ -1,14 +1,14 @@
 """The test cases of the weight calls: hand-chosen corners and seeded random layouts.
 
 Renders no rule of its own; the cases stand at the limits named in the scope
-paper's "Weights" and "Refusal numbers". Each field of a case is described in
-README.md.
+paper's "Weights" and "Refusal numbers", and in change request K7. Each field of a
+case is described in README.md.
 """
 
 import random
 from itertools import combinations, product
 
-from cases import ELEMENTS_MAX, case_type, lent_case, with_changes
+from cases import ELEMENTS_MAX, FP16_EDGES, INFINITIES, NAN_DRAWS, NANS, case_type, lent_case, with_changes
 from cube import U32_MAX
 from weights import WeightLayout, element_count, filled_bytes
 
@@ -19,6 +19,7 @@ OPS = (PACK, UNPACK)
 
 EXAMPLE = WeightLayout(3, 65, 1, 2, 0)
 INT16_EXAMPLE = WeightLayout(17, 3, 2, 1, 1)
+FP16_EXAMPLE = INT16_EXAMPLE._replace(precision=2)
 KERNELS = (15, 16, 17, 31, 32, 33)
 CHANNELS = (63, 64, 65, 128, 129)
 FILTERS = ((1, 2), (3, 1), (2, 1), (1, 3), (2, 3), (4, 1), (3, 2))
@@ -125,18 +126,37 @@ def ranges():
         yield lent(PACK, WeightLayout(33, 65, 1, 3, 0), base=base, span=span)
     yield lent(PACK, EXAMPLE, base=32640, span=260, fault_index=389, fault_value=minus_129)
     yield lent(UNPACK, EXAMPLE, fault_index=5, fault_value=65535)
-    for precision, value in product((1, 2), (0, minus_129, plus_128, 31745 + 32768, 65535)):
-        yield lent(PACK, INT16_EXAMPLE._replace(precision=precision), fault_index=7, fault_value=value)
+    for value in (0, minus_129, plus_128, 31745 + 32768, 65535):
+        yield lent(PACK, INT16_EXAMPLE, fault_index=7, fault_value=value)
+
+
+def fp16_ranges():
+    """Elements about the borders of NaN: the least index is named, infinity is taken. Other precisions, and reads."""
+    for i, value in enumerate(FP16_EDGES):
+        yield lent(PACK, FP16_EXAMPLE, fault_index=(0, 50, 101)[i % 3], fault_value=value)
+    for value in INFINITIES + NANS:
+        # taken in int16; in int8 all but -1 are past the range
+        for q in (INT16_EXAMPLE, EXAMPLE):
+            yield lent(PACK, q, fault_index=50, fault_value=value)
+        yield lent(UNPACK, FP16_EXAMPLE, fault_index=50, fault_value=value)
+    for q in (FP16_EXAMPLE, INT16_EXAMPLE, WeightLayout(33, 65, 1, 3, 2)):
+        for i, draw in enumerate(NAN_DRAWS):
+            yield lent(PACK, q, **draw)
+            # one more, before or behind the first that was drawn
+            yield lent(PACK, q, **draw, fault_index=i, fault_value=NANS[i])
+            yield lent(PACK, q, **draw, fault_index=101 - i, fault_value=NANS[i])
 
 
 FAULTS = {1: {"height": 33}, 2: {"precision": 3}, 6: {"n": 391}, 5: {"m": 511},
           7: {"fault_index": 9, "fault_value": 32896}}
+FP16_FAULTS = {1: {"height": 33}, 2: {"precision": 3}, 6: {"n": 103}, 5: {"m": 255},
+               26: {"fault_index": 9, "fault_value": NANS[1]}}
 
 
-def with_faults(op, codes):
+def with_faults(op, codes, q=EXAMPLE, faults=FAULTS):
     """A call on the example that has the fault of each code."""
-    changes = {name: value for code in codes for name, value in FAULTS[code].items()}
-    return lent(op, EXAMPLE, **changes)
+    changes = {name: value for code in codes for name, value in faults[code].items()}
+    return lent(op, q, **changes)
 
 
 def many_faults():
@@ -147,6 +167,13 @@ def many_faults():
     for i in range(len(order) - 2):
         yield with_faults(PACK, order[i:])
         yield with_faults(UNPACK, order[i:-1])
+
+
+def nan_faults():
+    """NaN alone, with each fault that comes before it, and with all later ones: 26 stands at 7's place."""
+    *before, last = FP16_FAULTS
+    for codes in ((), *((code,) for code in before), *(before[i:] for i in range(len(before) - 1))):
+        yield with_faults(PACK, (*codes, last), FP16_EXAMPLE, FP16_FAULTS)
 
 
 # --- random cases ---
@@ -174,8 +201,8 @@ def random_cases():
 
 # --- the list ---
 
-GROUPS = (borders, shapes, fills, wrong_sizes, wrong_precisions, counts, huge, ranges, many_faults,
-          random_cases)
+GROUPS = (borders, shapes, fills, wrong_sizes, wrong_precisions, counts, huge, ranges, fp16_ranges,
+          many_faults, nan_faults, random_cases)
 
 
 def all_cases():

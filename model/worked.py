@@ -2,7 +2,7 @@
 
 Beside them stand inputs on which readings of "Cells and cubes", "Stalls",
 "Weights", "Pixels", "Two tables", "The sheet program", "Refusal numbers" and of
-change requests K1, K2, K3, K5 and K6 part.
+change requests K1, K2, K3, K5, K6 and K7 part.
 Prints nothing if all hold.
 """
 
@@ -13,7 +13,7 @@ import pixels
 import sheet
 import walk
 import weights
-from cube import (Box, CubeLayout, box_positions, element_position, extent, pack, position,
+from cube import (Box, CubeLayout, box_positions, element_check, element_position, extent, nan_count, pack, position,
                   read_box, surface_count, unpack, whole_box, write_box)
 from lut import (EXPONENTIAL, LINEAR, OVERFLOW, PRIORITY, S32_MAX, S32_MIN, UNDERFLOW, X_ONLY,
                  LutSettings, Slope, XSettings, YSettings, linear_value, look, run, run_code, x_value)
@@ -88,6 +88,45 @@ def by_hand(n, is_placed, *numbers, q=EXAMPLE, owner=7):
     """A table with one slot filled by hand."""
     table = empty_table(q)
     return table._replace(slots=with_slot(table.slots, n, Slot(is_placed, owner, Rectangle(*numbers))))
+
+
+def nan_patterns():
+    """Change request K7: which of all elements each precision takes; of fp16 those that Python does not read as NaN."""
+    q, every = CubeLayout(1, 1, 1, 2, 32, 32, 0), range(-32768, 32768)
+    for element in every:
+        assert element_check(q, [element]) == ((26, 0) if nan_count([element]) else (0, 0))
+        assert element_check(q._replace(precision=1), [element]) == (0, 0)
+        assert element_check(q._replace(precision=0), [element]) == ((0, 0) if -128 <= element < 128 else (7, 0))
+    assert [z for z in every if element_check(q, [z])[0]] == [*range(-1023, 0), *range(31745, 32768)]
+    for bits, code in ((0x7C00, 0), (0xFC00, 0), (0x7C01, 26), (0x7FFF, 26), (0xFC01, 26), (0xFFFF, 26)):
+        assert pack(q, [(bits + 32768) % 65536 - 32768], bytes(32))[0] == code
+
+
+def nan_calls():
+    """Change request K7: 26 stands last, with the least index, in every call that writes; reads give NaN."""
+    q = CubeLayout(2, 1, 2, 2, 64, 64, 0)
+    table, box, buffer = by_hand(5, True, 0, 0, 2, 1, q=q), whole_box(q), bytes([0xFF]) * 64
+    for raw, index in (([-1, 0, 31745, 0], 0), ([31744, -1024, 32767, -1], 2), ([0, 0, 0, -1023], 3)):
+        assert pack(q, raw, buffer) == write_box(q, box, raw, buffer) == (26, index, buffer)
+        assert edit(table, 5, 7, box, raw, buffer) == (26, index, buffer)
+        assert walk.start(q, raw, 64) == (26, index, None)
+        assert weights.pack(WeightLayout(4, 1, 1, 1, 2), raw, buffer * 2) == (26, index, buffer * 2)
+        for short in (pack(q, raw, buffer[1:]), write_box(q, box, raw, buffer[1:]), edit(table, 5, 7, box, raw, buffer[1:]),
+                      walk.start(q, raw, 63), weights.pack(WeightLayout(4, 1, 1, 1, 2), raw, buffer)):
+            assert short[:2] == (5, 0)
+        assert pack(q, raw[1:], b"")[0] == walk.start(q, raw[1:], 0)[0] == 6
+        assert edit(table, 5, 8, box, raw, buffer)[0] == 25 and edit(table, 4, 8, box, raw, buffer)[0] == 8
+        assert write_box(q, box._replace(rows=2), raw, buffer)[0] == 9
+        # the same numbers in int16
+        wide = q._replace(precision=1)
+        assert pack(wide, raw, buffer)[0] == walk.start(wide, raw, 64)[0] == 0
+        assert unpack(q, [0] * 4, pack(wide, raw, buffer)[2]) == (0, 0, raw)
+    # ff is NaN everywhere: reads give it, an edit writes there, a release clears
+    assert unpack(q, [0] * 4, buffer) == read_box(q, box, [0] * 4, buffer) == (0, 0, [-1] * 4)
+    assert weights.unpack(WeightLayout(4, 1, 1, 1, 2), [0] * 4, buffer * 2) == (0, 0, [-1] * 4)
+    after = edit(table, 5, 7, Box(1, 0, 0, 1, 1, 1), [-1024], buffer)[2]
+    assert read(table, 5, 7, box, [0] * 4, after) == (0, 0, [-1, -1, -1024, -1])
+    assert read(table, 5, 7, box, [0] * 4, release(table, 5, 7, after)[3]) == (0, 0, [0] * 4)
 
 
 def placings():
@@ -227,7 +266,8 @@ def scan_order():
                                                            (0, 32)):
         line = 32 * width + gap
         q = CubeLayout(width, height, channels, precision, line, height * line + 2 * gap, gap)
-        raw = [i % 256 - 128 for i in range(width * height * channels)]
+        # none is NaN in fp16
+        raw = [i % 256 - (2128 if precision == 2 else 128) for i in range(width * height * channels)]
         buffer = bytes([238]) * (gap + extent(q)[2] + 9)
         code, index, first = walk.start(q, raw, len(buffer))
         atoms = walk.scan(q, raw)
@@ -553,6 +593,8 @@ if __name__ == "__main__":
     past_32_bits()
     lent_memory()
     boxes()
+    nan_patterns()
+    nan_calls()
     placings()
     region_calls()
     owner_ids()
