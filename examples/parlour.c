@@ -1,4 +1,4 @@
-/* A parlour: one picture for all, packed; two pupils' stalls in it, each under its pupil's number; an edit and a read through a stall; four
+/* A parlour: one picture for all, packed; two pupils' stalls in it, each under its pupil's number; an edit and a read through a stall; five
  * refusals, each printed with its sentence; then a pupil leaves, and the next one finds the stall empty.
  *
  *   cc -std=c11 -Wall -Wextra -pedantic -Iinclude examples/parlour.c target/staticlib/libolsketina.a -o parlour
@@ -18,7 +18,7 @@ enum { WIDTH = 3, HEIGHT = 2, CHANNELS = 40, ELEMENTS = WIDTH * HEIGHT * CHANNEL
 static int told(const char *call, uint32_t refusal, const size_t *fault)
 {
     printf("%s: %" PRIu32 " (%s)", call, refusal, olsketina_sentence(refusal));
-    if (refusal == OLSKETINA_REFUSED_INT8_RANGE)
+    if (refusal == OLSKETINA_REFUSED_INT8_RANGE || refusal == OLSKETINA_REFUSED_FP16_NAN)
         printf(", element %zu", *fault);
     putchar('\n');
     return refusal == OLSKETINA_ACCEPTED;
@@ -33,6 +33,9 @@ int main(void)
     const uint32_t below[OLSKETINA_BOX_WORDS] = {0, 1, 0, 1, 1, 1};
     const int16_t sevens[2] = {7, -7};
     const int16_t bright[2] = {7, 200};
+    /* A frame of two fp16 elements; as bit patterns, infinity and a NaN. */
+    const uint32_t floats[OLSKETINA_LAYOUT_WORDS] = {2, 1, 1, OLSKETINA_FP16, 64, 64, 0};
+    const int16_t patterns[2] = {0x7c00, 0x7c01};
     uint32_t table[OLSKETINA_TABLE_WORDS];
     int16_t elements[ELEMENTS];
     int16_t seen[2] = {0, 0};
@@ -57,11 +60,12 @@ int main(void)
 
     good &= seen[0] == 7 && seen[1] == -7 && position == 289;
 
-    /* Refused: an overlap, a box outside of its stall, an element that no int8 holds, an edit from the wrong chair. */
+    /* Refused: an overlap, a box outside of its stall, an element that no int8 holds, an edit from the wrong chair, a NaN. */
     good &= !told("place over slot 0", olsketina_regions_place(table, 2, CLARA, 1, 1, 2, 1, &fault), &fault);
     good &= !told("read below slot 1", olsketina_regions_read(table, 1, BEN, below, buffer, BYTES, seen, 1, &fault), &fault);
     good &= !told("edit with 200", olsketina_regions_edit(table, 0, ADA, pair, bright, 2, buffer, BYTES, &fault), &fault);
     good &= !told("edit of another's", olsketina_regions_edit(table, 0, BEN, pair, sevens, 2, buffer, BYTES, &fault), &fault);
+    good &= !told("pack with NaN", olsketina_cube_pack(floats, patterns, 2, buffer, BYTES, &fault), &fault) && fault == 1;
 
     /* Ada leaves: her cells become zero, and Clara may have the slot and the room. */
     good &= told("count in slot 0", olsketina_regions_count(table, 0, ADA, &cells, &fault), &fault);

@@ -22,7 +22,7 @@
 
 /* The header's version; olsketina_version() gives the archive's. It grows with every change of a call, of its answers or of a word's
  * meaning. */
-#define OLSKETINA_VERSION 7
+#define OLSKETINA_VERSION 8
 
 /* A parameter that points to (at least) n elements; a result that must be looked at. */
 #ifdef __cplusplus
@@ -72,6 +72,7 @@ enum olsketina_refusal {
     OLSKETINA_REFUSED_PIXEL_OUTSIDE = 23,
     OLSKETINA_REFUSED_SCRIPT_LINE = 24,
     OLSKETINA_REFUSED_OWNER_ID = 25,
+    OLSKETINA_REFUSED_FP16_NAN = 26,
     OLSKETINA_REFUSED_IMAGE_KIND = 29,
     OLSKETINA_REFUSED_PIXEL_LENGTH = 30
 };
@@ -106,6 +107,7 @@ static inline const char *olsketina_sentence(uint32_t refusal)
     case OLSKETINA_REFUSED_PIXEL_OUTSIDE: return "the pixel is outside the image";
     case OLSKETINA_REFUSED_SCRIPT_LINE: return "a line cannot be read as a record, or a file cannot be opened, read or written";
     case OLSKETINA_REFUSED_OWNER_ID: return "the owner's id is not 1 to 65535, or not that of the region";
+    case OLSKETINA_REFUSED_FP16_NAN: return "an fp16 element is NaN";
     case OLSKETINA_REFUSED_IMAGE_KIND: return "the image is of an fp16 format, or has not the channels of the cube";
     case OLSKETINA_REFUSED_PIXEL_LENGTH: return "the pixel buffer ends before the last pixel of the image does";
     default: return "no number of a refusal";
@@ -114,7 +116,8 @@ static inline const char *olsketina_sentence(uint32_t refusal)
 
 /* ---- cube layouts */
 
-/* precisions */
+/* precisions. An fp16 element is its bit pattern: where elements are written infinities are taken, and a NaN (exponent bits all set, fraction not 0)
+ * is refused; reading gives what the buffer holds, NaN too. */
 #define OLSKETINA_INT8 0
 #define OLSKETINA_INT16 1
 #define OLSKETINA_FP16 2
@@ -143,7 +146,7 @@ OLSKETINA_NODISCARD uint32_t olsketina_layout_extent(
 
 /* Packs a raw tensor: each atom is written whole, its padding as 0; every other byte stays. (This is the first call that takes slices: their
  * pointers are never null, also where a length is 0.)
- * Order: 1, 2, 3, 4, 6, 5, 7 (fault: the least raw index at fault). */
+ * Order: 1, 2, 3, 4, 6, 5, then 7 of int8 or 26 of fp16 (fault: the least raw index at fault). */
 OLSKETINA_NODISCARD uint32_t olsketina_cube_pack(
     const uint32_t layout[OLSKETINA_WORDS(OLSKETINA_LAYOUT_WORDS)],
     const int16_t *elements, size_t elements_len, uint8_t *buffer, size_t buffer_len, size_t *fault);
@@ -185,7 +188,7 @@ OLSKETINA_NODISCARD uint32_t olsketina_cube_position(
 
 /* Writes the walk before the first atom of a cube. Refused exactly where olsketina_cube_pack with a buffer of buffer_len bytes is, by the same number
  * and index; no buffer is lent.
- * Order: 1, 2, 3, 4, 6, 5, 7 (fault: the least raw index at fault). */
+ * Order: 1, 2, 3, 4, 6, 5, then 7 of int8 or 26 of fp16 (fault: the least raw index at fault). */
 OLSKETINA_NODISCARD uint32_t olsketina_walk_start(
     const uint32_t layout[OLSKETINA_WORDS(OLSKETINA_LAYOUT_WORDS)],
     const int16_t *elements, size_t elements_len, size_t buffer_len, uint64_t walk[OLSKETINA_WORDS(OLSKETINA_WALK_WORDS)], size_t *fault);
@@ -197,8 +200,8 @@ OLSKETINA_NODISCARD uint32_t olsketina_walk_start(
  *         send(position, bytes);
  *
  * Where each step gets the walk last handed back and the elements of the start, every atom is given once, surfaces * height * width in all, then 0
- * for ever; each written at its position, they leave what olsketina_cube_pack leaves. A step goes on by sums alone. Any other words and elements are
- * taken too: an element that is missing is 0, and where a sum would pass 64 bits none is left.
+ * for ever; each written at its position, they leave what olsketina_cube_pack leaves. A step goes on by sums alone. Any other words and elements, NaN
+ * too, are taken: an element that is missing is 0, and where a sum would pass 64 bits none is left.
  * Refuses nothing. */
 OLSKETINA_NODISCARD uint32_t olsketina_walk_step(
     uint64_t walk[OLSKETINA_WORDS(OLSKETINA_WALK_WORDS)], const int16_t *elements, size_t elements_len,
@@ -243,7 +246,7 @@ OLSKETINA_NODISCARD uint32_t olsketina_regions_place(
     uint32_t slot, uint32_t id, uint32_t column, uint32_t row, uint32_t columns, uint32_t rows, size_t *fault);
 
 /* Writes the elements of a box, counted from the corner of the owner's region in a slot, and no other byte.
- * Order: 1, 2, 3, 4, 8, 25, 9, 6, 5, 7 (fault: the least index at fault). */
+ * Order: 1, 2, 3, 4, 8, 25, 9, 6, 5, then 7 of int8 or 26 of fp16 (fault: the least index at fault). */
 OLSKETINA_NODISCARD uint32_t olsketina_regions_edit(
     const uint32_t table[OLSKETINA_WORDS(OLSKETINA_TABLE_WORDS)],
     uint32_t slot, uint32_t id, const uint32_t box[OLSKETINA_WORDS(OLSKETINA_BOX_WORDS)],
@@ -284,7 +287,7 @@ OLSKETINA_NODISCARD uint32_t olsketina_regions_count(
 #define OLSKETINA_WEIGHTS_WORDS 5
 
 /* Packs raw weights, filled with 0 to a multiple of 128 bytes; later bytes stay.
- * Order: 1, 2, 6, 5, 7 (fault: the least raw index at fault). */
+ * Order: 1, 2, 6, 5, then 7 of int8 or 26 of fp16 (fault: the least raw index at fault). */
 OLSKETINA_NODISCARD uint32_t olsketina_weights_pack(
     const uint32_t weights[OLSKETINA_WORDS(OLSKETINA_WEIGHTS_WORDS)],
     const int16_t *elements, size_t elements_len, uint8_t *buffer, size_t buffer_len, size_t *fault);

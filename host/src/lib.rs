@@ -51,6 +51,7 @@ pub mod raw {
 /// Precision codes.
 pub const INT8: u32 = 0;
 pub const INT16: u32 = 1;
+/// An element is its bit pattern: where elements are written infinities are taken, and NaN is refused; reading gives what the buffer holds, NaN too.
 pub const FP16: u32 = 2;
 
 /// The version of the archive that is linked: OLSKETINA_VERSION of its header.
@@ -59,7 +60,7 @@ pub fn version() -> u32 {
     unsafe { raw::olsketina_version() }
 }
 
-/// Why a call was refused: the scope paper's number, and the index of the element at fault (of 7, else 0).
+/// Why a call was refused: the scope paper's number, and the index of the element at fault (of 7 and 26, else 0).
 #[derive(Clone, Copy, Debug, PartialEq, Eq)]
 #[must_use]
 pub struct Refusal {
@@ -94,7 +95,8 @@ include!(concat!(env!("OUT_DIR"), "/refusals.rs"));
 
 impl std::fmt::Display for Refusal {
     fn fmt(&self, f: &mut std::fmt::Formatter) -> std::fmt::Result {
-        let index = if self.number == Refusal::INT8_RANGE { format!(" (index {})", self.fault) } else { String::new() };
+        let of_element = [Refusal::INT8_RANGE, Refusal::FP16_NAN].contains(&self.number);
+        let index = if of_element { format!(" (index {})", self.fault) } else { String::new() };
         write!(f, "refused, {}: {}{index}", self.number, self.sentence())
     }
 }

@@ -5,12 +5,14 @@ use std::fs;
 use std::path::PathBuf;
 use std::process::Command;
 
-/// A folder of its own for each test.
+/// A folder of its own for each test, at first empty.
 struct Folder(PathBuf);
 
 impl Folder {
     fn new(name: &str) -> Folder {
         let folder = PathBuf::from(env!("CARGO_TARGET_TMPDIR")).join(name);
+        // What an earlier run left; at the first there is none.
+        _ = fs::remove_dir_all(&folder);
         fs::create_dir_all(&folder).expect("a folder");
         Folder(folder)
     }
@@ -69,6 +71,25 @@ fn weights() {
     assert_eq!(Weights::from([3, 65, 1, 2, 0]).pack(&raw, &mut expected), Ok(()));
     assert_eq!(expected[388], raw[(65 + 64) * 2 + 1] as u8, "kernel 1, channel 64, column 1");
     Folder::new("cells-weights").trip("weights 3 65 1 2 0", &raw, "", &expected);
+}
+
+/// A dump may hold NaN: unpacking gives it, and packing that again is refused, but for int16.
+#[test]
+fn nan() {
+    let folder = Folder::new("cells-nan");
+    let raw = [0x7c00, -0x0400, -0x0001, 0x7c01];
+    let mut dump = vec![0; 128];
+    assert_eq!(Layout::from([4, 1, 1, 1, 128, 128, 0]).pack(&raw, &mut dump), Ok(()));
+    folder.trip("frame 4 1 1 1 128 128 0", &raw, "", &dump);
+    folder.put("frame", &dump);
+    folder.put("weights", &[as_bytes(&raw), vec![0; 120]].concat());
+    for (setting, bytes) in [("frame 4 1 1 2 128 128 0", "frame"), ("weights 4 1 1 1 2", "weights")] {
+        assert_eq!(folder.cells(&format!("unpack {setting} {bytes} back")), (0, String::new()));
+        assert_eq!(folder.get("back"), as_bytes(&raw), "{setting}");
+        let refused = (1, "cells: refused, 26: an fp16 element is NaN (index 2)".to_string());
+        assert_eq!(folder.cells(&format!("pack {setting} back out")), refused);
+        assert!(!folder.0.join("out").exists());
+    }
 }
 
 /// Refusals are printed with number and sentence; nothing is written.

@@ -42,8 +42,8 @@ impl Setting {
 
 /// All that the calls on weights answer, and those on a box of a whole cube.
 pub const WEIGHTS: &str =
-    "weights_count: 0 1 2; weights_extent: 0 1 2; weights_pack: 0 1 2 5 6 7; weights_position: 0 1 2 9; weights_unpack: 0 1 2 5 6";
-pub const BOXES: &str = "regions_edit: 0 1 2 3 4 5 6 7 9 25; regions_read: 0 1 2 3 4 5 6 9 25";
+    "weights_count: 0 1 2; weights_extent: 0 1 2; weights_pack: 0 1 2 5 6 7 26; weights_position: 0 1 2 9; weights_unpack: 0 1 2 5 6";
+pub const BOXES: &str = "regions_edit: 0 1 2 3 4 5 6 7 9 25 26; regions_read: 0 1 2 3 4 5 6 9 25";
 
 /// The owner of the regions that are placed by hand.
 pub const OWNER: u32 = 7;
@@ -171,16 +171,16 @@ impl Both {
     }
 
     /// Writes and reads with nothing, with as much as `fit` needs, which may be the setting before it was damaged, then with lengths beside that
-    /// and elements out of range; at most so many elements and bytes.
+    /// and elements that are not taken; at most so many elements and bytes.
     pub fn lengths(&mut self, g: &mut Generator, fit: Setting, setting: Setting, most: usize) {
-        let (precision, count, length) = fit.needs();
+        let ((precision, ..), (_, count, length)) = (setting.needs(), fit.needs());
         let [count, length] = [count.min(most), length.min(most)];
         let near = [g.length_near(count), g.length_near(length)];
         let mut elements = g.elements(precision, count.max(near[0]));
         let bytes = g.bytes(length.max(near[1]));
         self.write_and_read(setting, &[], &[]);
         self.write_and_read(setting, &elements[..count], &bytes[..length]);
-        g.spoil(3, &mut elements);
+        g.spoil(3, precision, &mut elements);
         self.write_and_read(setting, &elements[..near[0]], &bytes[..near[1]]);
     }
 

@@ -1,5 +1,6 @@
 //! A small generator of pseudorandom numbers, and the settings and lengths that the tests draw from it.
 
+use crate::reference::elements::is_nan;
 use crate::reference::regions::{self, SLOT};
 use crate::reference::{cube, each, pixels};
 use olsketina::{Conversion, ElementBox, Image, Layout, Table};
@@ -21,8 +22,13 @@ pub const IDS: [u32; 9] = [1, 2, 3, 40000, 65534, 65535, 0, 65536, u32::MAX];
 pub const PAINTED: [u32; 14] = [0, 1, 2, 3, 4, 6, 7, 9, 10, 12, 13, 14, 15, 16];
 pub const FLOATS: [u32; 3] = [5, 8, 11];
 
-/// Numbers at and beside the int8 and int16 ranges.
-pub const OUTSIDE: [i16; 6] = [128, -129, i16::MAX, i16::MIN, 127, -128];
+/// Elements at and beside the limits of int8, and past them.
+const INT8_LIMITS: [i16; 6] = [128, -129, i16::MAX, i16::MIN, 127, -128];
+const INT8_OUTSIDE: [i16; 8] = [128, -129, 255, 256, 384, -384, i16::MAX, i16::MIN];
+
+/// Bit patterns of fp16: the NaN of least and of greatest fraction, and the infinities, 0x7c00 and 0xfc00; of either sign.
+pub const NANS: [i16; 4] = [0x7c01, 0x7fff, -0x03ff, -0x0001];
+const INFINITIES: [i16; 2] = [0x7c00, -0x0400];
 
 /// Calls `take` with each copy of `base` in which two words, or one, are at the limits.
 pub fn each_pair<const N: usize>(base: [u32; N], mut take: impl FnMut([u32; N])) {
@@ -92,10 +98,44 @@ impl Generator {
         (0..count).map(|_| (self.word() >> 40) as i16).collect()
     }
 
-    /// Elements that a precision takes, the ends of its range among them.
+    /// Elements that a precision takes, the ends of its range among them; of fp16 about one in 32 is an infinity.
     pub fn elements(&mut self, precision: u32, count: usize) -> Vec<i16> {
-        let held = |element| if precision == 0 { i16::from(element as i8) } else { element };
+        let held = |element| match precision {
+            0 => i16::from(element as i8),
+            // NaN becomes the infinity of its sign.
+            2 if is_nan(element) => INFINITIES[usize::from(element < 0)],
+            _ => element,
+        };
         self.any_elements(count).into_iter().map(held).collect()
+    }
+
+    /// A bit pattern of fp16 that is NaN: one of the four at the ends, or any.
+    pub fn nan(&mut self) -> i16 {
+        let pattern = 0x7c00 | self.among(1, 0x03ff) as i16;
+        let any = if self.one_in(2) { pattern } else { pattern | i16::MIN };
+        self.pick(&[any, any, NANS[0], NANS[1], NANS[2], NANS[3]])
+    }
+
+    /// An element that a precision does not take; of int16, which takes all, one that another precision does not take.
+    pub fn untaken(&mut self, precision: u32) -> i16 {
+        let [int8, fp16] = [self.pick(&INT8_OUTSIDE), self.nan()];
+        match precision {
+            0 => int8,
+            2 => fp16,
+            _ => self.pick(&[int8, fp16]),
+        }
+    }
+
+    /// An element at or beside the limits of what a precision takes; of int16 of what the others take.
+    pub fn at_limit(&mut self, precision: u32) -> i16 {
+        let int8 = self.pick(&INT8_LIMITS);
+        let nan = self.nan();
+        let fp16 = self.pick(&[nan, nan, nan, INFINITIES[0], INFINITIES[1], 0x7bff, -0x0401, 0, i16::MIN]);
+        match precision {
+            0 => int8,
+            2 => fp16,
+            _ => self.pick(&[int8, fp16]),
+        }
     }
 
     /// A valid layout: its lines and surfaces may have gaps after them, and its start may not be 0.
@@ -180,13 +220,13 @@ impl Generator {
         self.pick(&[exact, other])
     }
 
-    /// Once in `odds` times puts numbers past the int8 range at one to three indices.
-    pub fn spoil(&mut self, odds: u64, elements: &mut [i16]) {
+    /// Once in `odds` times puts elements that a precision does not take at one to three indices.
+    pub fn spoil(&mut self, odds: u64, precision: u32, elements: &mut [i16]) {
         let changes = if !elements.is_empty() && self.one_in(odds) { self.among(1, 3) } else { 0 };
         for _ in 0..changes {
             let any = self.index(elements.len());
             let at = self.pick(&[0, elements.len() - 1, any, any]);
-            elements[at] = self.pick(&[128, -129, 255, 256, i16::MAX, i16::MIN]);
+            elements[at] = self.untaken(precision);
         }
     }
 

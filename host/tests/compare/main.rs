@@ -10,6 +10,7 @@ mod reference;
 
 mod conversion;
 mod lookup;
+mod nan;
 mod packed;
 mod paint;
 mod regions;

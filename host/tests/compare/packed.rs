@@ -2,7 +2,7 @@
 
 use crate::both::{start, Both};
 use crate::calls::{in_cube, in_cube_by, Cube, Kernels, Part, BOXES, OWNER, WEIGHTS};
-use crate::draw::{dense, whole, with_slot, Generator, EDGES, OUTSIDE, PRECISIONS};
+use crate::draw::{dense, whole, with_slot, Generator, EDGES, PRECISIONS};
 use crate::reference::each;
 use olsketina::Weights;
 
@@ -103,11 +103,11 @@ fn larger_cubes() {
             both.trip(&mut g, in_cube(layout, part));
             let (_, count, length) = Cube(layout).needs();
             let (mut elements, bytes) = (g.elements(precision, count), g.bytes(length));
-            g.spoil(1, &mut elements);
+            g.spoil(1, precision, &mut elements);
             settings.into_iter().for_each(|setting| drop(both.write(setting, &elements, &bytes)));
         }
     });
-    both.expect("cube_pack: 0 7; cube_unpack: 0; regions_edit: 0 7; regions_read: 0");
+    both.expect("cube_pack: 0 7 26; cube_unpack: 0; regions_edit: 0 7 26; regions_read: 0");
 }
 
 /// Settings, counts, lengths and values right and wrong in every mixture.
@@ -132,7 +132,7 @@ fn refusals_and_their_order() {
         both.lengths(&mut g, Kernels(weights), Kernels(other_weights), usize::MAX);
         both.checks(&mut g, Kernels(other_weights));
     }
-    both.expect(&format!("cube_pack: 0 1 2 3 4 5 6 7; cube_unpack: 0 1 2 3 4 5 6; {BOXES}; {WEIGHTS}"));
+    both.expect(&format!("cube_pack: 0 1 2 3 4 5 6 7 26; cube_unpack: 0 1 2 3 4 5 6; {BOXES}; {WEIGHTS}"));
 }
 
 /// Each number of elements and bytes beside the exact one; of some weights every number of bytes, past the last fill of 128.
@@ -162,7 +162,7 @@ fn lengths_beside_the_exact_ones() {
     );
 }
 
-/// One element out of range at every index, and a second one behind it.
+/// One element at or beside the limits of what is taken at every index, and one behind it that is not taken.
 #[test]
 fn values_out_of_range_at_every_index() {
     let (mut g, mut both) = start(16);
@@ -178,18 +178,18 @@ fn values_out_of_range_at_every_index() {
             let buffer = g.bytes(length);
             for at in 0..count {
                 let mut elements = g.elements(precision, count);
-                elements[at] = g.pick(&OUTSIDE);
+                elements[at] = g.at_limit(precision);
                 if g.one_in(2) {
-                    elements[at + g.index(count - at)] = g.pick(&[128, -129, 384, -384]);
+                    elements[at + g.index(count - at)] = g.untaken(precision);
                 }
                 both.write(setting, &elements, &buffer);
             }
         }
     }
-    both.expect("cube_pack: 0 7; regions_edit: 0 7; weights_pack: 0 7");
+    both.expect("cube_pack: 0 7 26; regions_edit: 0 7 26; weights_pack: 0 7 26");
 }
 
-/// Every 16-bit element to its bytes and back, every byte to its element; each value in and out of the int8 range; lists of every precision.
+/// Every 16-bit element to its bytes and back, every byte to its element; each one for each precision; lists of every precision.
 #[test]
 fn every_element() {
     let (mut g, mut both) = start(70);
@@ -202,17 +202,17 @@ fn every_element() {
     (0..256).for_each(|byte| bytes[32 * byte] = byte as u8);
     let signed: Vec<i16> = (0..128).chain(-128..0).collect();
     assert_eq!(both.read(row(256, 0), &bytes, &[9; 256]), signed);
-    each!(element in all, precision in [0, 1] => {
+    each!(element in all, precision in 0..=2 => {
         both.write(row(2, precision), &[0, element], &[238; 64]);
     });
     for round in 0..40000 {
         let precision = g.pick(&PRECISIONS);
         let count = g.index(if round % 10 == 0 { 600 } else { 70 });
-        let mut elements = g.elements(0, count);
-        g.spoil(2, &mut elements);
+        let mut elements = g.elements(precision, count);
+        g.spoil(2, precision, &mut elements);
         both.write(row(count as u32, precision), &elements, &vec![238; 32 * count]);
     }
-    both.expect("cube_pack: 0 1 2 7; cube_unpack: 0");
+    both.expect("cube_pack: 0 1 2 7 26; cube_unpack: 0");
 }
 
 /// Boxes at and past every side of cubes of every size, sums past 32 bits among them.

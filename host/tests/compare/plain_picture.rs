@@ -28,6 +28,16 @@ fn beyond(d: i32, conversion: Conversion, precision: u32) -> bool {
     twice >= halves(2 * high + 1) || twice <= halves(2 * low - 1)
 }
 
+/// Whether a precision takes an element, by its number: int8 takes -128 to 127, fp16 the numbers up to an infinity, which are 31744 and, of those
+/// below 0, -1024; past it they are NaN.
+fn taken(precision: u32, element: i16) -> bool {
+    match precision {
+        0 => (-128..=127).contains(&element),
+        2 => (0..=31744).contains(&element) || element <= -1024,
+        _ => true,
+    }
+}
+
 impl PlainPicture {
     /// What the buffer must be: the raw tensor packed over the bytes from before.
     pub fn buffer(&self) -> Vec<u8> {
@@ -75,9 +85,9 @@ impl PlainPicture {
 
     pub fn edit(&mut self, slot: u32, id: u32, part: ElementBox, elements: &[i16], bytes: usize) -> Answer<()> {
         let indices = self.indices([slot, id], part, elements.len(), bytes)?;
-        let outside = elements.iter().position(|element| !(-128..=127).contains(element));
-        if let (0, Some(fault)) = (self.layout.precision, outside) {
-            return Err(Refusal { number: 7, fault });
+        let precision = self.layout.precision;
+        if let Some(fault) = elements.iter().position(|&element| !taken(precision, element)) {
+            return Err(Refusal { number: if precision == 0 { 7 } else { 26 }, fault });
         }
         for (&index, &element) in indices.iter().zip(elements) {
             self.elements[index] = element;

@@ -4,6 +4,7 @@ use crate::both::{number, same, start, Both};
 use crate::calls::{Cube, Part, OWNER};
 use crate::draw::{buffer_length, element_count, pixel_length, product, with_slot, Generator, EDGES, FLOATS, IDS, PAINTED};
 use crate::plain_picture::PlainPicture;
+use crate::reference::elements::is_nan;
 use crate::reference::{each, parlour};
 use olsketina::{Answer, Conversion, ElementBox, Image, Layout, Region, Table};
 use std::fmt::Debug;
@@ -37,13 +38,21 @@ impl Session {
     }
 
     /// After a call that gave an answer: makes it on the plain picture, with as much of the buffer; the answers agree, and the buffer is what it
-    /// must be.
+    /// must be. No fp16 picture has NaN then, nor has its buffer: none was packed.
     fn beside<V: PartialEq + Debug>(
         &mut self, call: &'static str, answer: Answer<V>, plain: impl FnOnce(&mut PlainPicture, usize) -> Answer<V>,
     ) {
         let Some(picture) = &mut self.picture else { return };
         let case = format_args!("{:?}", self.table);
         self.both.same(call, answer, plain(picture, self.lent), case);
+        if picture.layout.precision == 2 {
+            let mut unpacked = vec![0; picture.elements.len()];
+            assert_eq!(picture.layout.unpack(&self.buffer, &mut unpacked), Ok(()), "{case}");
+            for elements in [&unpacked, &picture.elements] {
+                assert!(!elements.iter().any(|&element| is_nan(element)), "{call}: a picture has NaN; case: {case}");
+            }
+            self.both.note("fp16 pictures", 0, 1);
+        }
         same("buffer beside the plain picture", &self.buffer, &picture.buffer(), case);
     }
 
@@ -173,7 +182,7 @@ impl Session {
         match call {
             3..=6 => {
                 let mut elements = g.elements(layout.precision, given);
-                g.spoil(10, &mut elements);
+                g.spoil(10, layout.precision, &mut elements);
                 if self.edit(slot, id, part, &elements) {
                     assert_eq!(self.read(slot, id, part, &old), elements, "read after edit: slot {slot} {part:?}");
                 }
@@ -189,7 +198,7 @@ impl Session {
 
 /// What the calls of a list answer.
 const LISTS: &str = "components held: 0 1 2; parlour_paint: 0 1 2 3 4 5 8 9 16 19 20 21 22 25 29 30; regions_count: 0 1 2 3 4 8 9 25; \
-    regions_edit: 0 1 2 3 4 5 6 7 8 9 25; regions_place: 0 1 2 3 4 8 9 10 25; \
+    regions_edit: 0 1 2 3 4 5 6 7 8 9 25 26; regions_place: 0 1 2 3 4 8 9 10 25; \
     regions_position: 0 1 2 3 4 8 9 25; regions_read: 0 1 2 3 4 5 6 8 9 25; regions_release: 0 1 2 3 4 5 8 9 25";
 
 #[test]
@@ -227,10 +236,10 @@ fn lists_of_calls_beside_the_plain_picture() {
         (0..40).for_each(|_| session.any_call(&mut g));
     }
     session.both.expect(
-        "components held: 0 1 2; cube_pack: 0; edit beside the plain picture: 0 5 6 7 8 9 25; \
+        "components held: 0 1 2; cube_pack: 0; edit beside the plain picture: 0 5 6 7 8 9 25 26; fp16 pictures: 0; \
          paint beside the plain picture: 0 1 2 5 8 9 16 19 20 21 22 25 29 30; parlour_paint: 0 1 2 5 8 9 16 19 20 21 22 25 29 30; \
          place beside the plain picture: 0 8 9 10 25; \
-         read beside the plain picture: 0 5 6 8 9 25; regions_count: 0 8 25; regions_edit: 0 5 6 7 8 9 25; \
+         read beside the plain picture: 0 5 6 8 9 25; regions_count: 0 8 25; regions_edit: 0 5 6 7 8 9 25 26; \
          regions_place: 0 8 9 10 25; regions_position: 0 8 9 25; regions_read: 0 5 6 8 9 25; regions_release: 0 5 8 25; \
          release beside the plain picture: 0 5 8 25",
     );

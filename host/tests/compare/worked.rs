@@ -54,6 +54,44 @@ fn atoms() {
     assert_eq!(Walk::from_words(words).step(&elements).map(|atom| atom.position), Some(u64::MAX - 32));
 }
 
+/// Change request K7's patterns of fp16: infinities are taken, NaN is refused wherever it is written, and given wherever it is read.
+#[test]
+fn nan() {
+    let (cell, kernel) = (Layout::from([1, 1, 1, 2, 32, 32, 0]), Weights::from([1, 1, 1, 1, 2]));
+    let (mut desk, all) = (Table::empty(cell), [0, 0, 0, 1, 1, 1].into());
+    assert_eq!(desk.place(3, 7, [0, 0, 1, 1].into()), Ok(()));
+    let nan = refused(26);
+    for (pattern, answer) in [(0x7c00_u16, Ok(())), (0xfc00, Ok(())), (0x7c01, nan), (0x7fff, nan), (0xfc01, nan), (0xffff, nan)] {
+        let element = [pattern as i16];
+        assert_eq!(Walk::start(cell, &element, 32).map(|_| ()), answer, "{pattern:x}");
+        let mut left = [[0xee; 128]; 3];
+        let [one, other, third] = &mut left;
+        assert_eq!(
+            [cell.pack(&element, one), desk.edit(3, 7, all, &element, other), kernel.pack(&element, third)],
+            [answer; 3],
+            "{pattern:x}"
+        );
+        for buffer in left {
+            assert_eq!(buffer[..2], if answer.is_ok() { pattern.to_le_bytes() } else { [0xee; 2] }, "{pattern:x}");
+            assert!(answer.is_ok() || buffer == [0xee; 128], "{pattern:x}");
+        }
+        let mut buffer = [0; 128];
+        assert_eq!(Layout { precision: 1, ..cell }.pack(&element, &mut buffer), Ok(()));
+        let mut read = [[0]; 3];
+        let answers =
+            [cell.unpack(&buffer, &mut read[0]), desk.read(3, 7, all, &buffer, &mut read[1]), kernel.unpack(&buffer, &mut read[2])];
+        assert_eq!((answers, read), ([Ok(()); 3], [element; 3]), "{pattern:x}");
+    }
+    // The least index, after every other rule; int8 and int16 as ever.
+    let row = |precision| Layout::from([4, 1, 1, precision, 128, 128, 0]);
+    let elements = [0x7c00, -0x0400, -0x0001, 0x7fff];
+    assert_eq!(row(2).pack(&elements, &mut [0; 128]), Err(Refusal { number: 26, fault: 2 }));
+    assert_eq!(row(2).pack(&elements, &mut [0; 127]), refused(5));
+    assert_eq!(row(2).pack(&elements[..3], &mut [0; 128]), refused(6));
+    assert_eq!(row(1).pack(&elements, &mut [0; 128]), Ok(()));
+    assert_eq!(row(0).pack(&elements, &mut [0; 128]), Err(Refusal { number: 7, fault: 0 }));
+}
+
 #[test]
 fn weights() {
     let int8 = [3, 65, 1, 2, 0];

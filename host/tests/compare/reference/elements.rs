@@ -39,12 +39,26 @@ pub fn check_count(given: usize, count: i128) -> Answer<()> {
     require(given as i128 == count, Refusal::ELEMENT_COUNT)
 }
 
-/// Refuses the least index of an int8 element out of range. The first pass has no early exit, so that a compiler can take many at a time.
-pub fn check_values(precision: u32, elements: &[i16]) -> Answer<()> {
-    let outside = |element: &i16| !(-128..=127).contains(element);
-    if precision != 0 || !elements.iter().fold(false, |any, element| any | outside(element)) {
+/// Whether an fp16 element is NaN (change request K7): its exponent bits, 10 to 14, are all set, and its fraction, bits 0 to 9, is not zero.
+pub fn is_nan(element: i16) -> bool {
+    let [exponent, fraction] = [0x7c00, 0x03ff];
+    element & exponent == exponent && element & fraction != 0
+}
+
+/// Refuses the least index of an element that breaks a rule. The first pass has no early exit, so that a compiler can take many at a time.
+fn check_each(elements: &[i16], number: u32, broken: impl Fn(i16) -> bool) -> Answer<()> {
+    if !elements.iter().fold(false, |any, &element| any | broken(element)) {
         return Ok(());
     }
-    let fault = elements.iter().position(outside).unwrap_or(0);
-    Err(Refusal { number: Refusal::INT8_RANGE, fault })
+    let fault = elements.iter().position(|&element| broken(element)).unwrap_or(0);
+    Err(Refusal { number, fault })
+}
+
+/// Refuses an element that the precision does not take: of int8 one out of range, of fp16 NaN.
+pub fn check_values(precision: u32, elements: &[i16]) -> Answer<()> {
+    match precision {
+        0 => check_each(elements, Refusal::INT8_RANGE, |element| !(-128..=127).contains(&element)),
+        2 => check_each(elements, Refusal::FP16_NAN, is_nan),
+        _ => Ok(()),
+    }
 }
