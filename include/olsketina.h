@@ -116,8 +116,8 @@ static inline const char *olsketina_sentence(uint32_t refusal)
 
 /* ---- cube layouts */
 
-/* precisions. An fp16 element is its bit pattern: where elements are written infinities are taken, and a NaN (exponent bits all set, fraction not 0)
- * is refused; reading gives what the buffer holds, NaN too. */
+/* precisions. An fp16 element is its bit pattern: packing, editing and the start of a walk take infinities and refuse a NaN (exponent bits all set,
+ * fraction not 0); reading gives what the buffer holds, NaN too. */
 #define OLSKETINA_INT8 0
 #define OLSKETINA_INT16 1
 #define OLSKETINA_FP16 2

@@ -176,7 +176,7 @@ def stored_element(stored):
 
 
 def nan_count(elements):
-    """How many elements are NaN as Python itself reads the halves of floats that they are; no check uses it."""
+    """How many elements are NaN as Python itself reads them, as half floats; no check uses it."""
     return sum(map(math.isnan, struct.unpack(f"<{len(elements)}e", struct.pack(f"<{len(elements)}h", *elements))))
 
 

@@ -77,7 +77,7 @@ def size_code(g, p):
 
 
 def paint_code(q, slots, n, owner, p, pixels, k, buffer):
-    """The picture's checks, then 1 to 4, 8, 25, 9, 5: an edit's, without 6 and 7."""
+    """The picture's checks, then 1 to 4, 8, 25, 9, 5: an edit's, without 6, 7 and 26."""
     return (picture_code(q, p, pixels, k) or regions.count_code(q, slots, n, owner)
             or size_code(slots[n].rectangle, p) or room_code(q, buffer))
 

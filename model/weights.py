@@ -1,8 +1,8 @@
 """Direct-convolution weights: checks, element numbers, packing and unpacking.
 
 Renders the scope paper's section "Weights", and of "Refusal numbers" the codes
-1, 2, 6, 5, 7, and change request K7's 26, in the order of weights. Answers are as in cube.py. A surface of
-weights begins at byte 0 of its buffer.
+1, 2, 6, 5, 7, and change request K7's 26, in the order of weights. Answers are
+as in cube.py. A surface of weights begins at byte 0 of its buffer.
 """
 
 from collections import namedtuple

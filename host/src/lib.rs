@@ -51,7 +51,7 @@ pub mod raw {
 /// Precision codes.
 pub const INT8: u32 = 0;
 pub const INT16: u32 = 1;
-/// An element is its bit pattern: where elements are written infinities are taken, and NaN is refused; reading gives what the buffer holds, NaN too.
+/// An element is its bit pattern: packing, editing and the start of a walk take infinities and refuse NaN; reading gives what the buffer holds, NaN too.
 pub const FP16: u32 = 2;
 
 /// The version of the archive that is linked: OLSKETINA_VERSION of its header.

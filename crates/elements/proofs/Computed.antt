@@ -1,4 +1,5 @@
--- Elements and their bytes, computed: the paper's int16 −2 is FE FF (scope paper, "Worked on squared paper"). Assumes nothing.
+-- Elements and their bytes, and which elements each precision takes, computed: the paper's int16 −2 is FE FF (scope paper, "Worked on squared paper"; change
+-- request K7). Assumes nothing.
 use mathlib.Core.Path.{_≡_, refl}
 use mathlib.Core.Bool.{true, false}
 use mathlib.Core.List.{[], _∷_}
@@ -7,7 +8,7 @@ use Rattle.refusal.specs.declared.Refusal.the-variants.{Precision, Int8Range, F
 use Rattle.refusal.specs.declared.Answer.the-variants.{Accepted, Refused}
 use Rattle.refusal.specs.Checks.{requireAt, inOrder, leaves}
 use Rattle.elements.specs.Bytes.{elementBytes, byteOf, wordAt, signed, elementAt}
-use Rattle.elements.specs.Values.{bitPattern, isNan, valueCheck, valueValid, valueChecksFrom, valueChecks, precisionChecks}
+use Rattle.elements.specs.Values.{isNan, valueCheck, valueValid, valueChecksFrom, valueChecks, precisionChecks}
 
 pub record Computed : Type 0 where
   pub low : byteOf (negsuc 1) 0 ≡ 254
@@ -37,7 +38,7 @@ pub record Computed : Type 0 where
   pub first-minus-nan : valueCheck 2 5 (negsuc 1022) ≡ Refused Fp16Nan 5
   pub last-minus-nan : valueCheck 2 5 (negsuc 0) ≡ Refused Fp16Nan 5
   pub least-nan : inOrder (valueChecks 2 (pos 200 ∷ pos 31744 ∷ negsuc 0 ∷ pos 31745 ∷ [])) ≡ Refused Fp16Nan 2
-  -- int16 takes these patterns, int8 refuses them by 7
+  -- int16 takes these patterns; int8 takes -1 and refuses the others by 7
   pub int16-taken : inOrder (valueChecks 1 (pos 31745 ∷ pos 32767 ∷ negsuc 1022 ∷ negsuc 0 ∷ [])) ≡ Accepted
   pub int8-first : inOrder (valueChecks 0 (negsuc 0 ∷ pos 31745 ∷ [])) ≡ Refused Int8Range 1
   -- 2 before 7 and 26: no code of a precision, and an element that int8 or fp16 does not take
@@ -47,7 +48,7 @@ pub record Computed : Type 0 where
   pub known-next : inOrder (precisionChecks 0 (pos 0 ∷ pos 200 ∷ [])) ≡ Refused Int8Range 1
 
 pub computed : Computed
-unfolding requireAt inOrder leaves elementBytes byteOf wordAt signed elementAt bitPattern isNan valueCheck valueValid valueChecksFrom valueChecks precisionChecks
+unfolding requireAt inOrder leaves elementBytes byteOf wordAt signed elementAt isNan valueCheck valueValid valueChecksFrom valueChecks precisionChecks
 computed =
     record {
       low = refl;

@@ -3,7 +3,8 @@
 --     ListLaws    a list made anew by position: its length and its entries
 --     TabulateLaws   a list given by position: its length and its entries
 --     ByteLaws    an element's size, its bytes, and the element that bytes are; the round trip
---     ValueLaws   which elements a precision takes, and what a list of such checks answers
+--     ElementLaws which elements a precision takes, and the check of one
+--     ValueLaws   what the checks of a list of elements answer
 --     WordLaws    the unsigned number that bytes are
 --     SignLaws    signed numbers as the code computes them: the bits of a 16-bit number, and back
 --     NanLaws     which numbers are NaN
@@ -13,6 +14,7 @@ pub mod Computed
 pub mod ListLaws
 pub mod TabulateLaws
 pub mod ByteLaws
+pub mod ElementLaws
 pub mod ValueLaws
 pub mod WordLaws
 pub mod SignLaws

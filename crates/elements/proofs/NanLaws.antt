@@ -10,8 +10,8 @@ use lib.Dec.{leb, eqb}
 use lib.IntN.{ℤ, pos, negsuc}
 use lib.Signed.{mag, leZ}
 use borrow.Author.Tests.{le-leb, lt-leb, eq-eqb, ne-eqb}
-use Rattle.elements.specs.Bytes.{byteOf}
-use Rattle.elements.specs.Values.{bitPattern, isNan}
+use Rattle.elements.specs.Bytes.{byteOf, bitPattern}
+use Rattle.elements.specs.Values.{isNan}
 
 -- by a word
 nan-word : (w : ℕ) → (eqb (w / 1024 % 32) 31 && not (eqb (w % 1024) 0)) ≡ leb 31745 (w % 32768)
@@ -28,11 +28,11 @@ unfolding isNan
 isNan-low z = nan-word (bitPattern z)
 
 bits-pos : (n : ℕ) → n < 32768 → bitPattern (pos n) % 32768 ≡ n
-unfolding bitPattern byteOf
+unfolding byteOf
 bits-pos n m = omega arith
 
 bits-neg : (n : ℕ) → n < 32768 → bitPattern (negsuc n) % 32768 ≡ 32767 - n
-unfolding bitPattern byteOf
+unfolding byteOf
 bits-neg n m = omega arith
 
 pub nan-numbers : (z : ℤ) → mag z < 32768 → isNan z ≡ (leZ (pos 31745) z || (leZ (negsuc 1022) z && leZ z (negsuc 0)))

@@ -24,10 +24,11 @@ use mir.Syntax.{w16}
 use mir.Val.{toZ, ofZ}
 use mir.Facts.{toZ-ofZ}
 use Rattle.general.proofs.TestLaws.{and-true}
-use Rattle.elements.specs.Bytes.{byteOf}
-use Rattle.elements.specs.Values.{bitPattern, valueValid}
+use Rattle.elements.specs.Bytes.{byteOf, bitPattern}
+use Rattle.elements.specs.Values.{valueValid}
 use Rattle.elements.specs.Steps.{allValid, lowBits}
-use Rattle.elements.proofs.ValueLaws.{Valid, valueValid-int8, valueValid-fp16}
+use Rattle.elements.proofs.ElementLaws.{valueValid-int8, valueValid-fp16}
+use Rattle.elements.proofs.ValueLaws.{Valid}
 use Rattle.elements.proofs.NanLaws.{isNan-low}
 
 -- ---- one element
@@ -36,7 +37,7 @@ pub read-back : (z : ℤ) → mag z < 2 ^ 15 → toZ w16 (ofZ w16 z) ≡ z
 read-back z m = toZ-ofZ (record { sfits = m })
 
 -- int8: the bits of an element 128 higher, by its word w
-int8-number : (z : ℤ) (w : ℕ) → mag z < 32768 → w ≡ byteOf z 0 + 256 * byteOf z 1 → ltb ((w + 128) % 65536) 256 ≡ leZ (negsuc 127) z && leZ z (pos 127)
+int8-number : (z : ℤ) (w : ℕ) → mag z < 32768 → w ≡ bitPattern z → ltb ((w + 128) % 65536) 256 ≡ leZ (negsuc 127) z && leZ z (pos 127)
 unfolding byteOf
 int8-number (pos n) w m e = elim (decLt n 128) [
   | yes h ↦ rw (lt-ltb ((w + 128) % 65536) 256 (omega (arith, e)), le-leb n 127 (omega arith))
@@ -54,7 +55,7 @@ fp16-number n = elim (decLt n 31745) [
   | no h ↦ rw (le-ltb (n + 1023) 32768 (omega arith), le-leb 31745 n (omega arith))
 ]
 
-pub raised-int8 : (p : ℕ) (z : ℤ) (w : ℕ) → w ≡ byteOf z 0 + 256 * byteOf z 1 → p ≡ 0 → mag z < 32768 → ltb ((w + 128) % 65536) (2 ^ lowBits p) ≡ valueValid p z
+pub raised-int8 : (p : ℕ) (z : ℤ) (w : ℕ) → w ≡ bitPattern z → p ≡ 0 → mag z < 32768 → ltb ((w + 128) % 65536) (2 ^ lowBits p) ≡ valueValid p z
 unfolding lowBits
 raised-int8 p z w e k m = rw k (int8-number z w m e ∙ sym (valueValid-int8 z))
 

@@ -1,105 +1,27 @@
--- Laws of the check of values (specs/Values.antt). By cases on the precision, and by induction on the list of elements. Assumes nothing.
---     valueValid-int8, valueValid-fp16         what int8 and fp16 take
---     valueValid-int16, valueChecks-int16      int16 takes every element
---     valueValid-fits, fits-valueValid         an element that is valid is a number of the precision's bytes, and back but for fp16
---     valueCheck-int8, valueCheck-other        the refusal of an element that is not taken
+-- Laws of the checks of a list of elements (specs/Values.antt). By induction on the list. Assumes nothing.
 --     Valid                                    each of the first n elements is valid
 --     valueChecks-valid, valueChecks-least     what an accepted list, and a refused one, say of its elements
 --     valueChecks-all, valueChecks-first       and back
+--     valueChecks-int16, valueChecks-zeros     int16 takes every list; every precision takes zeros
 --     precisionChecks-unknown, precisionChecks-known     an unknown code is refused first; with a known one the elements decide
-use Prim.Native.Nat.{ℕ, zero, suc, _+_, _/_, _^_, _<_, zero-le, suc-le-suc}
-use mathlib.Core.Path.{_≡_, refl, sym, ap, _∙_, subst}
+use Prim.Native.Nat.{ℕ, zero, suc, _+_, _<_, zero-le, suc-le-suc}
+use mathlib.Core.Path.{_≡_, sym, ap, _∙_, subst, refl}
 use mathlib.Core.Logic.{_⊎_, inl, inr, ⊎-elim}
-use mathlib.Core.Bool.{Bool, true, false, not, _&&_}
+use mathlib.Core.Bool.{Bool, true, false}
 use mathlib.Core.List.{List, [], _∷_}
 use native.Mathlib.Nat.{le-of-suc-le-suc, not-suc-le-zero}
 use native.Mathlib.Omega.{arith}
-use lib.IntN.{ℤ, pos, negsuc}
+use lib.IntN.{ℤ, pos}
 use lib.ListN.{length, getD, replicate, length-replicate, getD-replicate}
-use lib.Signed.{mag, leZ}
-use borrow.Author.Tests.{leb-true, le-leb, lt-ltb, le-ltb}
-use Rattle.general.proofs.TestLaws.{and-left, and-both}
+use borrow.Author.Tests.{lt-ltb, le-ltb}
 use Rattle.refusal.specs.declared.Refusal.{Refusal}
-use Rattle.refusal.specs.declared.Refusal.the-variants.{Precision, Int8Range, Fp16Nan}
+use Rattle.refusal.specs.declared.Refusal.the-variants.{Precision}
 use Rattle.refusal.specs.declared.Answer.{Answer}
 use Rattle.refusal.specs.declared.Answer.the-variants.{Accepted, Refused}
-use Rattle.refusal.specs.Checks.{requireAt, inOrder, leaves}
-use Rattle.refusal.proofs.CheckLaws.{requireAt-true, requireAt-false, inOrder-nil, inOrder-next, inOrder-stop, inOrder-held, inOrder-rest}
-use Rattle.elements.specs.Bytes.{elementBytes, byteOf}
-use Rattle.elements.specs.Values.{bitPattern, isNan, valueCheck, valueValid, valueChecksFrom, valueChecks, precisionChecks}
-
--- ---- one element
-
--- a check is passed just where its test holds
-passes : (i : ℕ) (r : Refusal) (b : Bool) → leaves (requireAt i r b) true false ≡ b
-unfolding requireAt leaves
-passes i r true = refl
-passes i r false = refl
-
-pub valueValid-int8 : (z : ℤ) → valueValid 0 z ≡ leZ (negsuc 127) z && leZ z (pos 127)
-unfolding valueValid valueCheck
-valueValid-int8 z = passes 0 _ _
-
-pub valueValid-int16 : (z : ℤ) → valueValid 1 z ≡ true
-unfolding valueValid valueCheck leaves
-valueValid-int16 z = refl
-
-pub valueValid-fp16 : (p : ℕ) (z : ℤ) → valueValid (suc (suc p)) z ≡ not (isNan z)
-unfolding valueValid valueCheck
-valueValid-fp16 p z = passes 0 _ _
-
--- the refusal of an element that a precision does not take
-abbrev valueRefusal : ℕ → Refusal
-valueRefusal zero = Int8Range
-valueRefusal (suc p) = Fp16Nan
-
-valueCheck-is : (p i : ℕ) (z : ℤ) → valueCheck p i z ≡ requireAt i (valueRefusal p) (valueValid p z)
-unfolding valueCheck
-valueCheck-is zero i z = ap (λ (b : Bool). requireAt i (valueRefusal 0) b) (sym (valueValid-int8 z))
-valueCheck-is (suc zero) i z = sym (requireAt-true i (valueRefusal 1) (valueValid-int16 z))
-valueCheck-is (suc (suc p)) i z = ap (λ (b : Bool). requireAt i (valueRefusal 2) b) (sym (valueValid-fp16 p z))
-
-module _ (p i : ℕ) (z : ℤ) (e : valueValid p z ≡ false) where
-  valueCheck-refused : valueCheck p i z ≡ Refused (valueRefusal p) i
-  valueCheck-refused = valueCheck-is p i z ∙ requireAt-false i (valueRefusal p) e
-
-  pub valueCheck-int8 : p ≡ 0 → valueCheck p i z ≡ Refused Int8Range i
-  valueCheck-int8 k = valueCheck-refused ∙ ap (λ (n : ℕ). Refused (valueRefusal n) i) k
-
-  pub valueCheck-other : (p ≡ 0 → ⊥) → valueCheck p i z ≡ Refused Fp16Nan i
-  valueCheck-other f = valueCheck-refused ∙ ap (λ (r : Refusal). Refused r i) (other p f)
-    where
-      other : (n : ℕ) → (n ≡ 0 → ⊥) → valueRefusal n ≡ Fp16Nan
-      other zero g = absurd (g refl)
-      other (suc n) g = refl
-
-valid-mag : (z : ℤ) → leZ (negsuc 127) z && leZ z (pos 127) ≡ true → mag z < 128
-valid-mag (pos n) e = omega (arith, leb-true n 127 e)
-valid-mag (negsuc n) e = omega (arith, leb-true n 127 (and-left _ _ e))
-
-pub valueValid-fits : (p : ℕ) (z : ℤ) → valueValid p z ≡ true → mag z < 32768 → mag z < 256 ^ elementBytes p / 2
-unfolding elementBytes
-valueValid-fits zero z e m = valid-mag z (sym (valueValid-int8 z) ∙ e)
-valueValid-fits (suc p) z e m = m
-
-mag-valid : (z : ℤ) → mag z < 128 → leZ (negsuc 127) z && leZ z (pos 127) ≡ true
-mag-valid (pos n) h = le-leb n 127 (omega arith)
-mag-valid (negsuc n) h = and-both (le-leb n 127 (omega arith)) refl
-
-pub fits-valueValid : (p : ℕ) (z : ℤ) → p < 2 → mag z < 256 ^ elementBytes p / 2 → valueValid p z ≡ true
-unfolding elementBytes
-fits-valueValid zero z k h = valueValid-int8 z ∙ mag-valid z h
-fits-valueValid (suc zero) z k h = valueValid-int16 z
-fits-valueValid (suc (suc p)) z k h = absurd (omega arith)
-
--- every precision takes 0
-zero-valid : (p : ℕ) → valueValid p (pos 0) ≡ true
-unfolding isNan bitPattern byteOf
-zero-valid zero = valueValid-int8 (pos 0)
-zero-valid (suc zero) = valueValid-int16 (pos 0)
-zero-valid (suc (suc p)) = valueValid-fp16 p (pos 0)
-
--- ---- a list of elements, the first at index k
+use Rattle.refusal.specs.Checks.{requireAt, inOrder}
+use Rattle.refusal.proofs.CheckLaws.{requireAt-true, inOrder-nil, inOrder-next, inOrder-stop, inOrder-held, inOrder-rest}
+use Rattle.elements.specs.Values.{valueCheck, valueValid, valueChecksFrom, valueChecks, precisionChecks}
+use Rattle.elements.proofs.ElementLaws.{valueRefusal, valueCheck-is, valueCheck-refused, valueValid-int16, zero-valid}
 
 -- each of the first n elements is valid
 abbrev pub Valid : ℕ → List ℤ → ℕ → Type 0

@@ -17,6 +17,10 @@ unfoldable pub byteOf : ℤ → ℕ → ℕ
 byteOf (pos n) b = n / 256 ^ b % 256
 byteOf (negsuc n) b = 255 - n / 256 ^ b % 256
 
+-- the sixteen bits of an element as one unsigned number
+abbrev pub bitPattern : ℤ → ℕ
+bitPattern z = byteOf z 0 + 256 * byteOf z 1
+
 -- e bytes from `at` on, low byte first, as one unsigned number
 unfoldable pub wordAt : ℕ → List ℕ → ℕ → ℕ
 wordAt zero l at = 0

@@ -11,7 +11,7 @@ unfoldable pub allValid : ℕ → List ℤ → ℕ → Bool
 allValid p zs zero = true
 allValid p zs (suc n) = allValid p zs n && valueValid p (getD zs n (pos 0))
 
--- how many low bits the code's number of an element may have set where the precision takes it
+-- how many low bits the code's number of an element may have set where int8 or fp16 takes it; no number is made of an int16 element
 unfoldable pub lowBits : ℕ → ℕ
 lowBits zero = 8
 lowBits (suc p) = 15

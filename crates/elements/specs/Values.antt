@@ -1,5 +1,5 @@
 -- Which elements a precision takes, and the refusal of the others (scope paper, "Refusal numbers", 7; change request K7, 26). Assumes nothing.
-use Prim.Native.Nat.{ℕ, zero, suc, _+_, _*_, _/_, _%_, _<_}
+use Prim.Native.Nat.{ℕ, zero, suc, _/_, _%_, _<_}
 use mathlib.Core.Bool.{Bool, true, false, not, _&&_}
 use mathlib.Core.List.{List, [], _∷_}
 use lib.Dec.{ltb, eqb}
@@ -10,11 +10,7 @@ use Rattle.refusal.specs.declared.Refusal.the-variants.{Precision, Int8Range, F
 use Rattle.refusal.specs.declared.Answer.{Answer}
 use Rattle.refusal.specs.declared.Answer.the-variants.{Accepted}
 use Rattle.refusal.specs.Checks.{require, requireAt, leaves}
-use Rattle.elements.specs.Bytes.{byteOf}
-
--- the sixteen bits of an element as one number
-unfoldable pub bitPattern : ℤ → ℕ
-bitPattern z = byteOf z 0 + 256 * byteOf z 1
+use Rattle.elements.specs.Bytes.{bitPattern}
 
 -- of fp16: the lowest ten bits are the fraction, the next five the exponent, the highest the sign; NaN has an exponent of ones and a fraction that is not 0
 unfoldable pub isNan : ℤ → Bool

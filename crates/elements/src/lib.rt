@@ -6,8 +6,8 @@ ghost use lib.Dec.{ltb};
 ghost use lib.IntN.{pos, _-ℤ_};
 ghost use lib.ListN.{length, getD};
 ghost use Rattle.refusal.specs.Checks.{inOrder};
-ghost use Rattle.elements.specs.Bytes.{elementBytes, byteOf, signed};
-ghost use Rattle.elements.specs.Values.{bitPattern, valueCheck, valueValid, valueChecks, precisionChecks};
+ghost use Rattle.elements.specs.Bytes.{elementBytes, byteOf, bitPattern, signed};
+ghost use Rattle.elements.specs.Values.{valueCheck, valueValid, valueChecks, precisionChecks};
 ghost use Rattle.elements.specs.Steps.{allValid, lowBits};
 use refusal::Answer;
 use refusal::Refusal;
@@ -42,7 +42,7 @@ pub fn high_byte(x: i16) -> u8
 
 // Both bytes of an element as one number, the low byte first.
 pub fn word(x: i16) -> u16
-    ensures { λ r. ⌜ r ≡ byteOf x 0 + 256 * byteOf x 1 ⌝ }
+    ensures { λ r. ⌜ r ≡ bitPattern x ⌝ }
 {
     (bits(x) % 65536) as u16
 }
@@ -77,7 +77,7 @@ fn magnitude(x: i16) -> u16
     word(x) % 32768
 }
 
-// A number of an element that has no bit above the low ones just where the precision takes it: for int8 its bits 128 higher, for fp16 those below
+// A number of an element that has no bit above the low ones, 8 for int8 and 15 for fp16, just where the precision takes it: for int8 its bits 128 higher, for fp16 those below
 // its sign 1023 higher. int16 takes every element.
 fn raised(precision: u32, x: i16) -> u16
     requires { ⌜ (precision ≡ 1 → ⊥) ⌝ }
@@ -104,7 +104,7 @@ fn either(a: u16, b: u16) -> u16
 }
 
 // Whether a precision takes every element: the bits of all their numbers together. One pass without an early exit.
-fn all_taken(precision: u32, elements: &[i16]) -> bool
+fn all_valid(precision: u32, elements: &[i16]) -> bool
     requires { ⌜ (precision ≡ 1 → ⊥) ⌝ }
     ensures { λ r. ⌜ r ≡ allValid precision (now (elements .entry)) (length (now (elements .entry))) ⌝ }
 {
@@ -145,7 +145,7 @@ pub fn check_values(precision: u32, elements: &[i16]) -> Answer
     if precision == 1 {
         return Answer::Accepted;
     }
-    if all_taken(precision, elements) {
+    if all_valid(precision, elements) {
         return Answer::Accepted;
     }
     let at = first_refused(precision, elements);

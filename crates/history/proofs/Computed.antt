@@ -12,7 +12,7 @@ use Rattle.refusal.specs.Sizes.{sizeValid}
 use Rattle.refusal.specs.Checks.{requireAt, inOrder, leaves}
 use Rattle.elements.specs.Bytes.{elementBytes, byteOf, wordAt, signed, elementAt}
 use Rattle.elements.specs.Lists.{remadeFrom, remade, tabulateFrom, tabulate}
-use Rattle.elements.specs.Values.{bitPattern, isNan, valueCheck, valueChecksFrom, valueChecks}
+use Rattle.elements.specs.Values.{isNan, valueCheck, valueChecksFrom, valueChecks}
 use Rattle.layout.specs.Geometry.{elementCount, rawIndex, surfaces, elementPosition, cubeExtent}
 use Rattle.layout.specs.Boxes.{boxCount, spanInside, spanHas, boxHas, boxIndex, channelAt, rowAt, columnAt}
 use Rattle.layout.specs.Rules.{sizesValid, wholeAtoms, stridesValid, layoutChecks, storageChecks, cubeChecks}
@@ -170,7 +170,7 @@ pub record Pictured : Type 0 where
   pub float-edited : plainAt plainFloats 7 .state .raw ≡ negsuc 1023 ∷ pos 31744 ∷ []
 
 pub computed : Computed
-unfolding requireAt inOrder leaves elementBytes byteOf wordAt signed elementAt remadeFrom remade tabulateFrom tabulate bitPattern isNan valueCheck valueChecksFrom valueChecks elementCount rawIndex surfaces elementPosition cubeExtent boxCount spanInside spanHas boxHas boxIndex channelAt rowAt columnAt sizeValid sizesValid wholeAtoms stridesValid layoutChecks storageChecks cubeChecks surfaceOf rowOf columnOf byteInAtom inAtom atomOwner owner packedByte packed editedByte edited readElement boxElements packAnswer packBuffer slotOf slotsOf rectangleHas occupied anyFrom overlaps rectangleInside slotAt isFilled rectangleOf idOf placeChecks boxInRectangle slotChecks regionBoxChecks readChecks editChecks releaseChecks placeAnswer placeTable editAnswer editBuffer readAnswer readElements releaseAnswer releaseTable releaseBuffer saturate beyond formatTable formatIn formatOf kindValid pixelStrides settingChecks pixelPosition lowest highest quantizeChecks nearestOf nearest rounded quantized limited componentBytes componentValue componentAt component paintedElements total heldOne pixelHeld rowHeld heldCount kindTaken imageEnd fillsRectangle pictureChecks targetChecks paintChecks paintAnswer paintBuffer step program calls paintings.calls floats.calls
+unfolding requireAt inOrder leaves elementBytes byteOf wordAt signed elementAt remadeFrom remade tabulateFrom tabulate isNan valueCheck valueChecksFrom valueChecks elementCount rawIndex surfaces elementPosition cubeExtent boxCount spanInside spanHas boxHas boxIndex channelAt rowAt columnAt sizeValid sizesValid wholeAtoms stridesValid layoutChecks storageChecks cubeChecks surfaceOf rowOf columnOf byteInAtom inAtom atomOwner owner packedByte packed editedByte edited readElement boxElements packAnswer packBuffer slotOf slotsOf rectangleHas occupied anyFrom overlaps rectangleInside slotAt isFilled rectangleOf idOf placeChecks boxInRectangle slotChecks regionBoxChecks readChecks editChecks releaseChecks placeAnswer placeTable editAnswer editBuffer readAnswer readElements releaseAnswer releaseTable releaseBuffer saturate beyond formatTable formatIn formatOf kindValid pixelStrides settingChecks pixelPosition lowest highest quantizeChecks nearestOf nearest rounded quantized limited componentBytes componentValue componentAt component paintedElements total heldOne pixelHeld rowHeld heldCount kindTaken imageEnd fillsRectangle pictureChecks targetChecks paintChecks paintAnswer paintBuffer step program calls paintings.calls floats.calls
 computed =
     record {
       packing = refl;
@@ -205,7 +205,7 @@ computed =
     }
 
 pub pictured : Pictured
-unfolding requireAt inOrder leaves elementBytes byteOf wordAt signed elementAt remadeFrom remade tabulateFrom tabulate bitPattern isNan valueCheck valueChecksFrom valueChecks elementCount rawIndex surfaces elementPosition cubeExtent boxCount spanInside spanHas boxHas boxIndex channelAt rowAt columnAt sizeValid sizesValid wholeAtoms stridesValid layoutChecks storageChecks cubeChecks surfaceOf rowOf columnOf byteInAtom inAtom atomOwner owner packedByte packed editedByte edited readElement boxElements packAnswer packBuffer slotOf slotsOf rectangleHas occupied anyFrom overlaps rectangleInside slotAt isFilled rectangleOf idOf placeChecks boxInRectangle slotChecks regionBoxChecks readChecks editChecks releaseChecks emptySlots saturate beyond formatTable formatIn formatOf kindValid pixelStrides settingChecks pixelPosition lowest highest quantizeChecks nearestOf nearest rounded quantized limited componentBytes componentValue componentAt component paintedElements total heldOne pixelHeld rowHeld heldCount kindTaken imageEnd fillsRectangle pictureChecks targetChecks paintChecks boxWritten boxRead plainAnswer plainStep model calls paintings.calls floats.calls
+unfolding requireAt inOrder leaves elementBytes byteOf wordAt signed elementAt remadeFrom remade tabulateFrom tabulate isNan valueCheck valueChecksFrom valueChecks elementCount rawIndex surfaces elementPosition cubeExtent boxCount spanInside spanHas boxHas boxIndex channelAt rowAt columnAt sizeValid sizesValid wholeAtoms stridesValid layoutChecks storageChecks cubeChecks surfaceOf rowOf columnOf byteInAtom inAtom atomOwner owner packedByte packed editedByte edited readElement boxElements packAnswer packBuffer slotOf slotsOf rectangleHas occupied anyFrom overlaps rectangleInside slotAt isFilled rectangleOf idOf placeChecks boxInRectangle slotChecks regionBoxChecks readChecks editChecks releaseChecks emptySlots saturate beyond formatTable formatIn formatOf kindValid pixelStrides settingChecks pixelPosition lowest highest quantizeChecks nearestOf nearest rounded quantized limited componentBytes componentValue componentAt component paintedElements total heldOne pixelHeld rowHeld heldCount kindTaken imageEnd fillsRectangle pictureChecks targetChecks paintChecks boxWritten boxRead plainAnswer plainStep model calls paintings.calls floats.calls
 pictured =
     record {
       answers = refl;

@@ -12,9 +12,9 @@ use lib.IntN.{ℤ, pos}
 use Rattle.refusal.specs.declared.Answer.the-variants.{Accepted}
 use Rattle.refusal.proofs.CheckLaws.{leaves-done}
 use Rattle.elements.specs.Bytes.{byteOf}
-use Rattle.elements.specs.Values.{bitPattern, isNan, valueValid}
+use Rattle.elements.specs.Values.{isNan, valueValid}
 use Rattle.elements.proofs.TabulateLaws.{length-tabulate, getD-tabulate}
-use Rattle.elements.proofs.ValueLaws.{valueValid-fp16}
+use Rattle.elements.proofs.ElementLaws.{valueValid-fp16}
 use Rattle.layout.specs.declared.CubeLayout.{CubeLayout}
 use Rattle.layout.specs.declared.ElementBox.{ElementBox}
 use Rattle.layout.specs.Geometry.{rawIndex}
@@ -37,7 +37,7 @@ NoNan xs = (i : ℕ) → isNan (getD xs i (pos 0)) ≡ false
 
 -- a missing element is 0, which is no NaN
 each : (xs : List ℤ) (n : ℕ) → length xs ≡ n → ((i : ℕ) → i < n → isNan (getD xs i (pos 0)) ≡ false) → NoNan xs
-unfolding isNan bitPattern byteOf
+unfolding isNan byteOf
 each xs n long h i = elim (decLt i n) [
   | yes k ↦ h i k
   | no k ↦ ap isNan (List·getD-eq-default xs (pos 0) (subst⁻¹ (λ (m : ℕ). m ≤ i) long (omega arith)))
@@ -48,7 +48,7 @@ module _ (q : CubeLayout) (fp16 : q .precision ≡ 2) where
   taken-no-nan raw f =
       each raw (length raw) refl
       (λ i h.
-      let taken : valueValid 2 (getD raw i (pos 0)) ≡ true = subst (λ (p : ℕ). valueValid p (getD raw i (pos 0)) ≡ true) fp16 (f .taken i h) in
+      let taken : valueValid 2 (getD raw i (pos 0)) ≡ true = subst (λ (p : ℕ). valueValid p (getD raw i (pos 0)) ≡ true) fp16 (f .valid i h) in
       not-true (isNan (getD raw i (pos 0))) (sym (valueValid-fp16 0 (getD raw i (pos 0))) ∙ taken))
 
   box-no-nan : (raw : List ℤ) (box : ElementBox) → NoNan raw → NoNan (boxRead q box raw)

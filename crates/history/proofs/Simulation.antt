@@ -38,7 +38,7 @@ module _ (q : CubeLayout) (before : List ℕ) where
     unfolding packAnswer
     still-packs s m a =
         inOrder-passed (cubeChecks q (length (m .raw)) (length before)) (valueChecks (q .precision) (m .raw)) (ap (λ (n : ℕ). inOrder (cubeChecks q n (length before))) (a .count) ∙ room)
-        ∙ valueChecks-all (q .precision) (m .raw) (a .fits .taken)
+        ∙ valueChecks-all (q .precision) (m .raw) (a .fits .valid)
 
     buffer-packed : (s : State) (m : Plain) → Agrees q before s m → s .buffer ≡ packBuffer q (m .raw) before
     unfolding packBuffer

@@ -2,7 +2,7 @@
 -- are the raw tensor's. By cases on a byte's owner, and index by index. Assumes nothing.
 --     boxWritten-length, boxWritten-at     the raw tensor after elements were written at a box
 --     packed-boxWritten                    the commuting law
---     Fits, checked-fits, boxWritten-fits                every element is one that the precision takes, and fits its bytes
+--     Fits, checked-fits, boxWritten-fits   every element is one that the precision takes, and fits its bytes
 --     packed-boxRead                       what a box of the packed buffer reads
 --     zeros-at                             an element of a list of zeros
 use Prim.Native.Nat.{ℕ, zero, suc, _+_, _/_, _^_, _≤_, _<_}
@@ -19,7 +19,8 @@ use Rattle.elements.specs.Bytes.{byteOf}
 use Rattle.elements.specs.Values.{SixteenBit, valueValid, valueChecks}
 use Rattle.elements.proofs.ListLaws.{length-remade, getD-remade}
 use Rattle.elements.proofs.TabulateLaws.{tabulate-ext}
-use Rattle.elements.proofs.ValueLaws.{valueValid-fits, valueChecks-valid}
+use Rattle.elements.proofs.ElementLaws.{valueValid-fits}
+use Rattle.elements.proofs.ValueLaws.{valueChecks-valid}
 use Rattle.layout.specs.declared.CubeLayout.{CubeLayout}
 use Rattle.layout.specs.declared.ElementBox.{ElementBox}
 use Rattle.layout.specs.Geometry.{sizeOf, elementCount, rawIndex, cubeExtent}
@@ -100,14 +101,14 @@ module _ (q : CubeLayout) (box : ElementBox) (xs raw : List ℤ) where
 
 -- every element is one that the precision takes, and fits its bytes
 pub record Fits (q : CubeLayout) (raw : List ℤ) : Type 0 where
-  pub taken : (i : ℕ) → i < length raw → valueValid (q .precision) (getD raw i (pos 0)) ≡ true
+  pub valid : (i : ℕ) → i < length raw → valueValid (q .precision) (getD raw i (pos 0)) ≡ true
   pub fit : (i : ℕ) → i < length raw → mag (getD raw i (pos 0)) < 256 ^ sizeOf q / 2
 
 -- elements of 16 bits that pass the check of values
 pub checked-fits : (q : CubeLayout) (xs : List ℤ) → SixteenBit xs → inOrder (valueChecks (q .precision) xs) ≡ Accepted → Fits q xs
 checked-fits q xs sixteen ok =
     let valid = valueChecks-valid (q .precision) xs ok in
-    record { taken = valid; fit = λ i h. valueValid-fits (q .precision) (getD xs i (pos 0)) (valid i h) (sixteen .each i) }
+    record { valid = valid; fit = λ i h. valueValid-fits (q .precision) (getD xs i (pos 0)) (valid i h) (sixteen .each i) }
 
 -- what holds of every element written and of every element before holds of every element
 boxWritten-each : (P : ℤ → Type 0) (q : CubeLayout) (box : ElementBox) (xs raw : List ℤ) → length xs ≡ boxCount box
@@ -128,7 +129,7 @@ boxWritten-each P q box xs raw count px pr i h =
 pub boxWritten-fits : (q : CubeLayout) (box : ElementBox) (xs raw : List ℤ) → length xs ≡ boxCount box → Fits q xs → Fits q raw → Fits q (boxWritten q box xs raw)
 boxWritten-fits q box xs raw count fx fr =
     record {
-      taken = boxWritten-each (λ (z : ℤ). valueValid (q .precision) z ≡ true) q box xs raw count (fx .taken) (fr .taken);
+      valid = boxWritten-each (λ (z : ℤ). valueValid (q .precision) z ≡ true) q box xs raw count (fx .valid) (fr .valid);
       fit = boxWritten-each (λ (z : ℤ). mag z < 256 ^ sizeOf q / 2) q box xs raw count (fx .fit) (fr .fit);
     }
 

@@ -1,5 +1,5 @@
 -- One list of calls, small enough to follow by hand: a cube of 3 columns, 1 row and 2 channels of int8 in 96 bytes, two regions side by side, a
--- refusal of each kind that can come after an accepted packing, and a release whose room another owner takes. Assumes nothing.
+-- refusal of each kind that a placing, an edit or a read of int8 can have after an accepted packing, and a release whose room another owner takes. Assumes nothing.
 use Prim.Native.Nat.{ℕ}
 use mathlib.Core.List.{List, [], _∷_}
 use lib.ListN.{replicate}

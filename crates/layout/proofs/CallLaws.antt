@@ -5,7 +5,7 @@
 --     box-layout .. box-accepted     checks 1 to 4, 9, one after another
 --     admit-box .. admit-valid       checks 6 and 5 after them
 --     box-counts             a box's counts are at most 8192
---     write-refused .. write-admitted    7 after the others
+--     write-refused .. write-admitted    7 or 26 after the others
 --     zeros-stored, clear-as-write   clearing a box is judged as writing zeros to it
 --     clear-box .. clear-front       check 5 after checks 1 to 4, 9
 --     clear-admitted, admit-clear    what an accepted clearing tells; a call that is admitted has room for one
@@ -159,7 +159,7 @@ pub admit-front : (q : CubeLayout) (box : ElementBox) (given len : ℕ) → inOr
 unfolding admitChecks
 admit-front q box given len e = inOrder-front (boxChecks q box) (storageChecks q (boxCount box) given len) e
 
--- ---- calls that write: 7 after the others
+-- ---- calls that write: 7 or 26 after the others
 module _ (q : CubeLayout) (box : ElementBox) (xs : List ℤ) (len : ℕ) where
   pub write-refused : {r : Refusal} {i : ℕ} → inOrder (admitChecks q box (length xs) len) ≡ Refused r i → Refused r i ≡ writeBoxAnswer q box xs len
   unfolding writeBoxAnswer
@@ -173,7 +173,7 @@ module _ (q : CubeLayout) (box : ElementBox) (xs : List ℤ) (len : ℕ) where
   unfolding writeBoxAnswer
   write-admitted e = inOrder-front (admitChecks q box (length xs) len) (valueChecks (q .precision) xs) e
 
--- zeros, as many as are wanted, are never refused by 6 or 7
+-- zeros, as many as are wanted, are never refused by 6, 7 or 26
 pub zeros-stored : (q : CubeLayout) (n len : ℕ) → inOrder (storageChecks q n (length (replicate n (pos 0))) len ++ valueChecks (q .precision) (replicate n (pos 0))) ≡ inOrder (roomChecks q len)
 unfolding storageChecks
 zeros-stored q n len =

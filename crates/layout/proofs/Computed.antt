@@ -13,7 +13,7 @@ use Rattle.refusal.specs.Checks.{requireAt, inOrder, leaves, result}
 use Rattle.refusal.specs.Sizes.{sizeValid}
 use Rattle.elements.specs.Bytes.{elementBytes, byteOf, wordAt, signed, elementAt}
 use Rattle.elements.specs.Lists.{tabulateFrom, tabulate}
-use Rattle.elements.specs.Values.{bitPattern, isNan, valueCheck, valueChecksFrom, valueChecks}
+use Rattle.elements.specs.Values.{isNan, valueCheck, valueChecksFrom, valueChecks}
 use Rattle.layout.specs.declared.CubeLayout.{CubeLayout}
 use Rattle.layout.specs.declared.ElementBox.{ElementBox}
 use Rattle.layout.specs.declared.ByteOwner.the-variants.{Element, Padding, Gap, Outside, Refused as NotGiven}
@@ -91,12 +91,12 @@ pub record Computed : Type 0 where
   pub int16-taken : answerCode (packAnswer (layoutOf 2 1 1 1 64 64 0) (pos 31745 ∷ negsuc 0 ∷ []) 64) ≡ 0
   -- unpacking, two at once, also 4 and 6, 6 and 5
   pub unpack-double : map (λ (q : CubeLayout). answerCode (unpackAnswer q 0 0)) wrong ≡ 1 ∷ 2 ∷ 3 ∷ 4 ∷ 6 ∷ []
-  -- writing a box, two at once, also 4 and 9, 9 and 6; 6 and 5; 5 and 7; 5 and 26; 26 alone
+  -- writing a box, two at once, also 4 and 9, 9 and 6; 6 and 5; 5 and 7; 5 and 26; 26 alone, at the caller's index
   pub write-double : map (λ (q : CubeLayout). answerCode (writeBoxAnswer q past-channels [] 0)) wrong ≡ 1 ∷ 2 ∷ 3 ∷ 4 ∷ 9 ∷ []
   pub write-count-first : answerCode (writeBoxAnswer (single 0 0) (oneElement 0 0 0) [] 31) ≡ 6
   pub write-room-first : answerCode (writeBoxAnswer (single 0 0) (oneElement 0 0 0) (pos 200 ∷ []) 31) ≡ 5
   pub write-nan-room-first : answerCode (writeBoxAnswer (single 2 0) (oneElement 0 0 0) (negsuc 0 ∷ []) 31) ≡ 5
-  pub write-nan : writeBoxAnswer (single 2 0) (oneElement 0 0 0) (pos 32767 ∷ []) 32 ≡ Refused Fp16Nan 0
+  pub write-nan : writeBoxAnswer (layoutOf 3 2 2 2 96 192 0) pair (negsuc 1023 ∷ pos 32767 ∷ []) 192 ≡ Refused Fp16Nan 1
   -- clearing a box the same, without 6, 7 and 26: also 9 and 5; a buffer of the extent is valid
   pub clear-double : map (λ (q : CubeLayout). answerCode (clearBoxAnswer q past-channels 0)) wrong ≡ 1 ∷ 2 ∷ 3 ∷ 4 ∷ 9 ∷ []
   pub clear-short : answerCode (clearBoxAnswer (single 0 0) (oneElement 0 0 0) 31) ≡ 5
@@ -110,7 +110,7 @@ pub record Computed : Type 0 where
   pub read-nan : readBoxElements (single 2 0) (oneElement 0 0 0) (255 ∷ 255 ∷ replicate 30 0) (pos 32767 ∷ []) ≡ negsuc 0 ∷ []
 
 pub computed : Computed
-unfolding requireAt inOrder leaves tabulateFrom tabulate sizeValid elementBytes byteOf wordAt signed elementAt bitPattern isNan valueCheck valueChecksFrom valueChecks elementCount rawIndex surfaces elementPosition cubeExtent boxCount spanInside boxInside spanHas boxHas boxIndex channelAt rowAt columnAt surfaceOf rowOf columnOf byteInAtom inAtom atomOwner owner sizesValid wholeAtoms stridesValid layoutChecks boxChecks storageChecks cubeChecks admitChecks packedByte editedByte readElement boxElements unpacked packAnswer unpackAnswer unpackElements writeBoxAnswer clearBoxAnswer readBoxAnswer readBoxElements result extentQuantity positionQuantity
+unfolding requireAt inOrder leaves tabulateFrom tabulate sizeValid elementBytes byteOf wordAt signed elementAt isNan valueCheck valueChecksFrom valueChecks elementCount rawIndex surfaces elementPosition cubeExtent boxCount spanInside boxInside spanHas boxHas boxIndex channelAt rowAt columnAt surfaceOf rowOf columnOf byteInAtom inAtom atomOwner owner sizesValid wholeAtoms stridesValid layoutChecks boxChecks storageChecks cubeChecks admitChecks packedByte editedByte readElement boxElements unpacked packAnswer unpackAnswer unpackElements writeBoxAnswer clearBoxAnswer readBoxAnswer readBoxElements result extentQuantity positionQuantity
 computed =
     record {
       position = refl;

@@ -80,7 +80,7 @@ module _ (q : CubeLayout) (raw : List ℤ) (before : List ℕ) (accepted : packA
   pub length-kept : length (packBuffer q raw before) ≡ length before
   length-kept = ap length left ∙ packed-length q raw before
 
-  -- unpacking is checked as packing was, without 7
+  -- unpacking is checked as packing was, without 7 and 26
   unpacks : (cells : List ℤ) → length cells ≡ length raw → unpackAnswer q (length cells) (length (packBuffer q raw before)) ≡ Accepted
   unfolding packAnswer unpackAnswer
   unpacks cells e =

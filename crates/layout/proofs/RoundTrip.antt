@@ -12,7 +12,8 @@ use lib.Signed.{mag}
 use Rattle.refusal.specs.declared.Answer.the-variants.{Accepted}
 use Rattle.elements.proofs.ByteLaws.{elementAt-byteOf}
 use Rattle.elements.proofs.TabulateLaws.{length-tabulate, getD-tabulate}
-use Rattle.elements.proofs.ValueLaws.{valueValid-fits, valueChecks-valid}
+use Rattle.elements.proofs.ElementLaws.{valueValid-fits}
+use Rattle.elements.proofs.ValueLaws.{valueChecks-valid}
 use Rattle.layout.specs.declared.CubeLayout.{CubeLayout}
 use Rattle.layout.specs.Geometry.{sizeOf, rawIndex, elementPosition, cubeExtent}
 use Rattle.layout.specs.Boxes.{wholeBox, boxCount, channelAt, rowAt, columnAt}

@@ -18,7 +18,8 @@ use Rattle.refusal.specs.Checks.{inOrder}
 use Rattle.elements.specs.Bytes.{elementBytes}
 use Rattle.elements.specs.Values.{SixteenBit, valueValid, valueChecks}
 use Rattle.elements.proofs.TabulateLaws.{length-tabulate, getD-tabulate}
-use Rattle.elements.proofs.ValueLaws.{fits-valueValid, valueChecks-all}
+use Rattle.elements.proofs.ElementLaws.{fits-valueValid}
+use Rattle.elements.proofs.ValueLaws.{valueChecks-all}
 use Rattle.integers.proofs.SaturateLaws.{fits-saturate}
 use Rattle.layout.specs.Boxes.{boxCount, channelAt, rowAt, columnAt}
 use Rattle.pixels.specs.declared.PixelSetting.{PixelSetting}

@@ -66,7 +66,7 @@ module _ (a : Access) (b : ElementBox) where
       let storage = storageChecks (a .layout) (boxCount b) (length xs) len in
       record { reads = read-accepted (length xs) len (inOrder-passed _ storage ok ∙ inOrder-front storage _ rest); values = inOrder-back storage _ rest }
 
--- ---- release: 6 and 7 never refuse its zeros
+-- ---- release: 6, 7 and 26 never refuse its zeros
 module _ (a : Access) (len : ℕ) where
   pub release-as-edit : inOrder (releaseChecks a len) ≡ inOrder (editChecks a (wholeRegion a) (zerosOf (wholeRegion a)) len)
   unfolding releaseChecks editChecks

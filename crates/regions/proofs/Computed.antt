@@ -13,7 +13,7 @@ use Rattle.refusal.specs.Checks.{requireAt, inOrder, leaves, result}
 use Rattle.refusal.specs.Sizes.{sizeValid}
 use Rattle.elements.specs.Bytes.{elementBytes, byteOf, wordAt, signed, elementAt}
 use Rattle.elements.specs.Lists.{remadeFrom, remade, tabulateFrom, tabulate}
-use Rattle.elements.specs.Values.{bitPattern, isNan, valueCheck, valueChecksFrom, valueChecks}
+use Rattle.elements.specs.Values.{isNan, valueCheck, valueChecksFrom, valueChecks}
 use Rattle.layout.specs.declared.CubeLayout.{CubeLayout}
 use Rattle.layout.specs.declared.ElementBox.{ElementBox}
 use Rattle.layout.specs.Geometry.{layoutOf, surfaces, elementPosition, cubeExtent}
@@ -52,9 +52,12 @@ wrong = map emptyTable (layoutOf 0 2 40 3 128 256 0 ∷ layoutOf 3 2 40 3 0 256 
 abbrev small : RegionTable
 small = placeTable (emptyTable (layoutOf 2 1 1 0 64 64 0)) 0 3 (rectangle 1 0 1 1)
 
--- the same of fp16
+-- the same of fp16, with two channels, and both of the region
 abbrev floats : RegionTable
-floats = placeTable (emptyTable (layoutOf 2 1 1 2 64 64 0)) 0 3 (rectangle 1 0 1 1)
+floats = placeTable (emptyTable (layoutOf 2 1 2 2 64 64 0)) 0 3 (rectangle 1 0 1 1)
+
+abbrev both : ElementBox
+both = record { channel = 0; row = 0; column = 0; channels = 2; rows = 1; columns = 1 }
 
 abbrev slot : RegionTable → ℕ → Region
 slot t n = getD (t .slots) n (placedRegion 1 (rectangle 9 9 9 9))
@@ -103,9 +106,9 @@ pub record Computed : Type 0 where
       ∷ []
       ≡ 25 ∷ 9 ∷ 6 ∷ 5 ∷ []
   pub value : editAnswer table 0 7 (oneElement 0 0 0) (pos 200 ∷ []) 480 ≡ Refused Int8Range 0
-  -- fp16: 6 and 26, 5 and 26; 26 alone; -infinity is taken
+  -- fp16: 6 and 26, 5 and 26; 26 alone, at the caller's index; -infinity is taken
   pub nan-later : editing floats 0 3 (oneElement 0 0 0) (negsuc 0 ∷ negsuc 0 ∷ []) 63 ∷ editing floats 0 3 (oneElement 0 0 0) (negsuc 0 ∷ []) 63 ∷ [] ≡ 6 ∷ 5 ∷ []
-  pub nan : editAnswer floats 0 3 (oneElement 0 0 0) (negsuc 1022 ∷ []) 64 ≡ Refused Fp16Nan 0
+  pub nan : editAnswer floats 0 3 both (negsuc 1023 ∷ negsuc 1022 ∷ []) 64 ≡ Refused Fp16Nan 1
   pub infinity : editing floats 0 3 (oneElement 0 0 0) (negsuc 1023 ∷ []) 64 ≡ 0
   -- a read the same, without 7 and 26
   pub read-double : map (λ (t : RegionTable). reading t 0 nothing 1 0) wrong ≡ 1 ∷ 2 ∷ 3 ∷ 4 ∷ 8 ∷ []
@@ -147,7 +150,7 @@ pub record Computed : Type 0 where
   pub next : placing two 2 8 (rectangle 1 0 1 1) ∷ placing (releaseTable two 0 7 480) 0 8 (rectangle 1 0 1 1) ∷ [] ≡ 10 ∷ 0 ∷ []
 
 pub computed : Computed
-unfolding requireAt inOrder leaves result sizeValid elementBytes byteOf wordAt signed elementAt remadeFrom remade tabulateFrom tabulate bitPattern isNan valueCheck valueChecksFrom valueChecks surfaces elementPosition cubeExtent boxCount spanInside spanHas boxHas boxIndex channelAt rowAt columnAt sizesValid wholeAtoms stridesValid layoutChecks storageChecks surfaceOf rowOf columnOf byteInAtom inAtom atomOwner owner editedByte edited readElement boxElements slotOf slotsOf rectangleHas occupied anyFrom overlaps rectangleInside slotAt isFilled rectangleOf idOf placeChecks boxInRectangle slotChecks regionBoxChecks readChecks editChecks releaseChecks placeAnswer placeTable editAnswer editBuffer readAnswer readElements releaseAnswer releaseTable releaseBuffer regionPosition regionCount regionFound
+unfolding requireAt inOrder leaves result sizeValid elementBytes byteOf wordAt signed elementAt remadeFrom remade tabulateFrom tabulate isNan valueCheck valueChecksFrom valueChecks surfaces elementPosition cubeExtent boxCount spanInside spanHas boxHas boxIndex channelAt rowAt columnAt sizesValid wholeAtoms stridesValid layoutChecks storageChecks surfaceOf rowOf columnOf byteInAtom inAtom atomOwner owner editedByte edited readElement boxElements slotOf slotsOf rectangleHas occupied anyFrom overlaps rectangleInside slotAt isFilled rectangleOf idOf placeChecks boxInRectangle slotChecks regionBoxChecks readChecks editChecks releaseChecks placeAnswer placeTable editAnswer editBuffer readAnswer readElements releaseAnswer releaseTable releaseBuffer regionPosition regionCount regionFound
 computed =
     record {
       placings = refl;

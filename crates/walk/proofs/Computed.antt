@@ -11,7 +11,7 @@ use Rattle.refusal.specs.Checks.{requireAt, inOrder, result}
 use Rattle.refusal.specs.Sizes.{sizeValid}
 use Rattle.elements.specs.Bytes.{elementBytes, byteOf}
 use Rattle.elements.specs.Lists.{remadeFrom, remade, tabulateFrom, tabulate}
-use Rattle.elements.specs.Values.{bitPattern, isNan, valueCheck, valueChecksFrom, valueChecks}
+use Rattle.elements.specs.Values.{isNan, valueCheck, valueChecksFrom, valueChecks}
 use Rattle.layout.specs.declared.CubeLayout.{CubeLayout}
 use Rattle.layout.specs.Geometry.{layoutOf, elementCount, surfaces, cubeExtent}
 use Rattle.layout.specs.Rules.{sizesValid, wholeAtoms, stridesValid, layoutChecks, storageChecks, cubeChecks}
@@ -133,7 +133,7 @@ pub record Computed : Type 0 where
   pub none-columns : walkStep (hand 32 0 0 2 3 0) [] .walk .position ≡ 96
 
 pub computed : Computed
-unfolding requireAt inOrder result sizeValid elementBytes byteOf remadeFrom remade tabulateFrom tabulate bitPattern isNan valueCheck valueChecksFrom valueChecks elementCount surfaces cubeExtent sizesValid wholeAtoms stridesValid layoutChecks storageChecks cubeChecks packAnswer atomElements firstWalk walkStart strideOf moved atomLeft atomByte atomBytes walkStep walkAfter stepTold writtenAt stepsWritten
+unfolding requireAt inOrder result sizeValid elementBytes byteOf remadeFrom remade tabulateFrom tabulate isNan valueCheck valueChecksFrom valueChecks elementCount surfaces cubeExtent sizesValid wholeAtoms stridesValid layoutChecks storageChecks cubeChecks packAnswer atomElements firstWalk walkStart strideOf moved atomLeft atomByte atomBytes walkStep walkAfter stepTold writtenAt stepsWritten
 computed =
     record {
       starts = refl;

@@ -13,7 +13,7 @@ use Rattle.refusal.specs.Checks.{requireAt, inOrder, leaves, result}
 use Rattle.refusal.specs.Sizes.{sizeValid}
 use Rattle.elements.specs.Bytes.{elementBytes, byteOf, wordAt, signed, elementAt}
 use Rattle.elements.specs.Lists.{tabulateFrom, tabulate}
-use Rattle.elements.specs.Values.{bitPattern, isNan, valueCheck, valueChecksFrom, valueChecks}
+use Rattle.elements.specs.Values.{isNan, valueCheck, valueChecksFrom, valueChecks}
 use Rattle.weights.specs.declared.WeightLayout.{WeightLayout}
 use Rattle.weights.specs.Geometry.{groupSize, elementCount, groupKernels, blockChannels, offsetNumber, elementNumber, elementPosition, surfaceBytes, numberAt}
 use Rattle.weights.specs.Rules.{sizesValid, weightChecks, elementInside, elementChecks}
@@ -61,7 +61,7 @@ pub record Computed : Type 0 where
   pub unpacking-double : answerCode (unpackAnswer (weights 0 1 1 1 3) 0 0) ∷ answerCode (unpackAnswer (weights 1 1 1 1 3) 0 0) ∷ answerCode (unpackAnswer (weights 1 1 1 1 0) 0 127) ∷ [] ≡ 1 ∷ 2 ∷ 6 ∷ []
 
 pub computed : Computed
-unfolding requireAt inOrder leaves result sizeValid elementBytes byteOf wordAt signed elementAt tabulateFrom tabulate bitPattern isNan valueCheck valueChecksFrom valueChecks groupSize elementCount groupKernels blockChannels offsetNumber elementNumber elementPosition surfaceBytes numberAt sizesValid weightChecks elementInside elementChecks unpacked packAnswer unpackAnswer unpackElements countQuantity extentQuantity positionQuantity
+unfolding requireAt inOrder leaves result sizeValid elementBytes byteOf wordAt signed elementAt tabulateFrom tabulate isNan valueCheck valueChecksFrom valueChecks groupSize elementCount groupKernels blockChannels offsetNumber elementNumber elementPosition surfaceBytes numberAt sizesValid weightChecks elementInside elementChecks unpacked packAnswer unpackAnswer unpackElements countQuantity extentQuantity positionQuantity
 computed =
     record {
       positions = refl;

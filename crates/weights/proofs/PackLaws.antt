@@ -89,7 +89,7 @@ module _ (q : WeightLayout) (raw : List ℤ) (before : List ℕ) (accepted : pac
   pub number-of-raw : (i : ℕ) → i < elementCount q → (rawAt q i < elementCount q) × (numberAt q (rawAt q i) ≡ i) × (rawAt q (numberAt q i) ≡ i)
   number-of-raw i h = (rawAt-lt q (adm .layout) i h, numberAt-rawAt q (adm .layout) i h, rawAt-numberAt q (adm .layout) i h)
 
-  -- unpacking is checked as packing was, without 7
+  -- unpacking is checked as packing was, without 7 and 26
   unpacks : (cells : List ℤ) → length cells ≡ length raw → unpackAnswer q (length cells) (length (packBuffer q raw before)) ≡ Accepted
   unfolding packAnswer unpackAnswer
   unpacks cells e = rw (e, length-kept) (inOrder-front (weightChecks q (length raw) (length before)) (valueChecks (q .precision) raw) accepted)

@@ -12,7 +12,8 @@ use Rattle.refusal.specs.declared.Answer.the-variants.{Accepted}
 use Rattle.elements.specs.Bytes.{elementAt}
 use Rattle.elements.proofs.ByteLaws.{elementAt-byteOf}
 use Rattle.elements.proofs.TabulateLaws.{length-tabulate, getD-tabulate}
-use Rattle.elements.proofs.ValueLaws.{valueValid-fits, valueChecks-valid}
+use Rattle.elements.proofs.ElementLaws.{valueValid-fits}
+use Rattle.elements.proofs.ValueLaws.{valueChecks-valid}
 use Rattle.weights.specs.declared.WeightLayout.{WeightLayout}
 use Rattle.weights.specs.Geometry.{sizeOf, elementCount, rawAt, numberAt}
 use Rattle.weights.specs.Contents.{packed, unpacked}

@@ -3,18 +3,10 @@
 use crate::both::{start, Both};
 use crate::calls::{in_cube, Cube, Kernels, Part, Setting, OWNER};
 use crate::draw::{buffer_length, dense, element_count, whole, with_slot, Generator, NANS};
+use crate::plain_picture::number_of;
 use crate::reference::each;
 use olsketina::{Answer, Layout, Refusal, Weights};
 use std::collections::BTreeSet;
-
-/// What a precision answers of an element, by its number: NaN are 31745 to 32767 and -1023 to -1.
-fn number_of(precision: u32, element: i16) -> u32 {
-    match precision {
-        0 if !(-128..=127).contains(&element) => 7,
-        2 if element >= 31745 || (-1023..=-1).contains(&element) => 26,
-        _ => 0,
-    }
-}
 
 /// A layout's cube, and all of it as a box; weights.
 fn settings(layout: Layout, weights: Weights) -> [Setting; 3] {
@@ -130,7 +122,8 @@ fn elements_are_last_in_each_order() {
         for at in [fault, fault + g.index(count - fault)] {
             elements[at] = g.untaken(precision);
         }
-        (elements, (if precision == 0 { 7 } else { 26 }, fault))
+        let number = number_of(precision, elements[fault]);
+        (elements, (number, fault))
     };
     let rules = |layout: &mut Layout, broken: u32| {
         let broken = |rule: u32| broken >> rule & 1;
@@ -194,7 +187,7 @@ fn the_least_index_of_long_lists() {
                 1 => (0..3).for_each(|_| elements[first + g.index(count - first)] = g.untaken(precision)),
                 _ => elements[first..].fill_with(|| g.untaken(precision)),
             }
-            let number = if precision == 0 { 7 } else { 26 };
+            let number = number_of(precision, elements[first]);
             both.all_calls(&mut g, (layout, weights), &elements, Err(Refusal { number, fault: first }));
         });
     });

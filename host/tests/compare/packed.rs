@@ -164,7 +164,7 @@ fn lengths_beside_the_exact_ones() {
 
 /// One element at or beside the limits of what is taken at every index, and one behind it that is not taken.
 #[test]
-fn values_out_of_range_at_every_index() {
+fn elements_not_taken_at_every_index() {
     let (mut g, mut both) = start(16);
     for precision in 0..=2 {
         let table = with_slot(g.layout(40, 3, 36, precision), 3, [1, OWNER, 1, 1, 38, 2]);

@@ -28,13 +28,13 @@ fn beyond(d: i32, conversion: Conversion, precision: u32) -> bool {
     twice >= halves(2 * high + 1) || twice <= halves(2 * low - 1)
 }
 
-/// Whether a precision takes an element, by its number: int8 takes -128 to 127, fp16 the numbers up to an infinity, which are 31744 and, of those
-/// below 0, -1024; past it they are NaN.
-fn taken(precision: u32, element: i16) -> bool {
+/// The refusal of an element that a precision does not take, by the element's number: int8 takes -128 to 127; of fp16 NaN is 31745 to 32767 and -1023
+/// to -1. 0 where it takes it.
+pub fn number_of(precision: u32, element: i16) -> u32 {
     match precision {
-        0 => (-128..=127).contains(&element),
-        2 => (0..=31744).contains(&element) || element <= -1024,
-        _ => true,
+        0 if !(-128..=127).contains(&element) => 7,
+        2 if element >= 31745 || (-1023..=-1).contains(&element) => 26,
+        _ => 0,
     }
 }
 
@@ -86,8 +86,8 @@ impl PlainPicture {
     pub fn edit(&mut self, slot: u32, id: u32, part: ElementBox, elements: &[i16], bytes: usize) -> Answer<()> {
         let indices = self.indices([slot, id], part, elements.len(), bytes)?;
         let precision = self.layout.precision;
-        if let Some(fault) = elements.iter().position(|&element| !taken(precision, element)) {
-            return Err(Refusal { number: if precision == 0 { 7 } else { 26 }, fault });
+        if let Some(fault) = elements.iter().position(|&element| number_of(precision, element) != 0) {
+            return Err(Refusal { number: number_of(precision, elements[fault]), fault });
         }
         for (&index, &element) in indices.iter().zip(elements) {
             self.elements[index] = element;

@@ -300,7 +300,7 @@ fn every_length_and_count() {
 
 /// One element at or beside the limits of what is taken at every index, and one behind it that is not taken.
 #[test]
-fn values_out_of_range_at_every_index() {
+fn elements_not_taken_at_every_index() {
     let (mut g, mut both) = start(98);
     each!(precision in 0..=2, [width, height, channels] in [[70, 2, 5], [3, 2, 67], [33, 1, 33], [1, 1, 1]] => {
         let layout = g.layout(width, height, channels, precision);

@@ -10,7 +10,8 @@ use Rattle.refusal.specs.declared.Answer.{Answer}
 use Rattle.refusal.specs.Checks.{inOrder}
 use Rattle.elements.specs.Values.{valueCheck, precisionChecks}
 use Rattle.elements.specs.Steps.{allValid}
-use Rattle.elements.proofs.ValueLaws.{valueCheck-int8, valueCheck-other, valueChecks-all, valueChecks-int16, precisionChecks-unknown, precisionChecks-known}
+use Rattle.elements.proofs.ElementLaws.{valueCheck-int8, valueCheck-other}
+use Rattle.elements.proofs.ValueLaws.{valueChecks-all, valueChecks-int16, precisionChecks-unknown, precisionChecks-known}
 use Rattle.elements.proofs.StepLaws.{allValid-at}
 use Rattle.elements.proofs.check_values.Statement.{statement}
 use Rattle.elements.proofs.check_values.Tie as tie
@@ -28,19 +29,19 @@ returns-2 c =
     let a = d .before .args in
     sym (precisionChecks-known (a .precision) (a .elements .now) (known d) ∙ rw (c .if2 .taken) (valueChecks-int16 (a .elements .now)))
 
-all-taken-requires : tie.Need-all-taken-requires
-all-taken-requires c κs = c .if2 .left
+all-valid-requires : tie.Need-all-valid-requires
+all-valid-requires c κs = c .if2 .left
 
 returns-3 : tie.Need-returns-3
 returns-3 c =
     let d = c .before .before .before in
     let a = d .before .args in
     let zs = a .elements .now in
-    let all : allValid (a .precision) zs (length zs) ≡ true = sym (c .before .all-taken .ensures) ∙ c .if3 .taken in
+    let all : allValid (a .precision) zs (length zs) ≡ true = sym (c .before .all-valid .ensures) ∙ c .if3 .taken in
     sym (precisionChecks-known (a .precision) zs (known d) ∙ valueChecks-all (a .precision) zs (allValid-at (a .precision) zs (length zs) all))
 
 first-refused-requires : tie.Need-first-refused-requires
-first-refused-requires c κs = (c .before .before .if2 .left, sym (c .before .all-taken .ensures) ∙ c .if3 .left)
+first-refused-requires c κs = (c .before .before .if2 .left, sym (c .before .all-valid .ensures) ∙ c .if3 .left)
 
 -- the first at fault is told, by the refusal that its precision has
 abbrev entry : tie.After-first-refused → tie.Start
@@ -63,4 +64,4 @@ returns-5 c = let d = c .before in at-fault d (valueCheck-other (entry d .args .
 
 pub check-values-spec : {M : Type 1} → statement M
 check-values-spec =
-    tie.close (tie.spec returns returns-2 all-taken-requires returns-3 first-refused-requires returns-4 returns-5)
+    tie.close (tie.spec returns returns-2 all-valid-requires returns-3 first-refused-requires returns-4 returns-5)

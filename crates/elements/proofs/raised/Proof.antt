@@ -1,10 +1,9 @@
 -- `elements::raised` meets its contract, by what `word` and `magnitude` ensure. Assumes nothing.
-use Prim.Native.Nat.{_+_, _*_, _%_}
+use Prim.Native.Nat.{_%_}
 use mathlib.Core.Path.{_≡_}
 use mir.Facts.{toZ-ofZ}
 use borrow.Author.Needs.{needs}
-use Rattle.elements.specs.Bytes.{byteOf}
-use Rattle.elements.specs.Values.{bitPattern}
+use Rattle.elements.specs.Bytes.{bitPattern}
 use Rattle.elements.proofs.StepLaws.{raised-int8, raised-fp16}
 use Rattle.elements.proofs.raised.Statement.{statement}
 use Rattle.elements.proofs.raised.Tie as tie
@@ -24,7 +23,7 @@ cast-result-2 c = search needs
 returns : tie.Need-returns
 returns c =
     let s = c .before .before in
-    let w : c .word .result ≡ byteOf (s .args .x) 0 + 256 * byteOf (s .args .x) 1 = rw (toZ-ofZ (s .fits .x)) at (c .word .ensures) in
+    let w : c .word .result ≡ bitPattern (s .args .x) = rw (toZ-ofZ (s .fits .x)) at (c .word .ensures) in
     raised-int8 (s .args .precision) (s .args .x) (c .word .result) w (c .before .if1 .taken) (s .fits .x .sfits)
 
 magnitude-requires : tie.Need-magnitude-requires

@@ -15,7 +15,7 @@ use borrow.Author.Needs.{needs}
 use Rattle.weights_calls.proofs.pack.Statement.{statement}
 use Rattle.weights_calls.proofs.pack.Tie as tie
 
--- checks 1, 2, 6, 5 passed, and then 7
+-- checks 1, 2, 6, 5 passed, and then 7 or 26
 abbrev entry : tie.After-enum-told → tie.Start
 entry c = c .before .before .before .before
 

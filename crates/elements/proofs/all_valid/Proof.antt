@@ -1,4 +1,4 @@
--- `elements::all_taken` meets its contract. The loop's invariant: what was seen has no bit above the low ones just if each of the first i elements is valid. The
+-- `elements::all_valid` meets its contract. The loop's invariant: what was seen has no bit above the low ones just if each of the first i elements is valid. The
 -- measure is what is left of the length. Assumes nothing.
 use Prim.Native.Nat.{ℕ, _≤_, _-_, _^_}
 use mathlib.Core.Path.{_≡_, ap, _∙_}
@@ -9,8 +9,8 @@ use lib.IntN.{pos}
 use lib.ListN.{length, getD}
 use Rattle.elements.specs.Steps.{allValid, lowBits}
 use Rattle.elements.proofs.StepLaws.{read-back, allValid-none, allValid-next}
-use Rattle.elements.proofs.all_taken.Statement.{statement}
-use Rattle.elements.proofs.all_taken.Tie as tie
+use Rattle.elements.proofs.all_valid.Statement.{statement}
+use Rattle.elements.proofs.all_valid.Tie as tie
 
 abbrev Inv-loop : tie.InvT-loop
 Inv-loop precision elements seen₀ i₀ seen i = (i ≤ length elements) × (ltb seen (2 ^ lowBits precision) ≡ allValid precision elements i)
@@ -62,8 +62,8 @@ returns c =
     let whole : l .i ≡ length zs = omega arith in
     ap (λ (n : ℕ). ltb (l .seen) n) (c .limit .ensures) ∙ l .inv .1 ∙ ap (λ (n : ℕ). allValid (a .precision) zs n) whole
 
-pub all-taken-spec : {M : Type 1} → statement M
-all-taken-spec =
+pub all-valid-spec : {M : Type 1} → statement M
+all-valid-spec =
     tie.close
     (tie.spec
     Inv-loop
