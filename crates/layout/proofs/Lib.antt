@@ -12,6 +12,7 @@
 --     CallLaws        the orders of checks: a call on the whole cube, and what an accepted call tells
 --     Formulas        the paper's formula and its converse; packing by it
 --     RoundTrip       what is packed is read back
+--     SameLaws        the elements of a box from their bytes alone
 --     PackLaws        what an accepted packing, or writing of a box, comes to
 --     Claims          the claims about packed cubes, of the calls
 pub mod Computed
@@ -27,5 +28,6 @@ pub mod WhoseLaws
 pub mod CallLaws
 pub mod Formulas
 pub mod RoundTrip
+pub mod SameLaws
 pub mod PackLaws
 pub mod Claims

@@ -3,6 +3,7 @@
 --     linesFrom-none                   begun by nothing
 --     linesFrom-end-none, -end-some    the end of the input
 --     linesFrom-ended, -open           a part with a newline, and one without
+--     linesOf-none, -ended, -open      the lines of a whole input, the first taken off
 use Prim.Native.Nat.{ℕ, zero, suc, _+_, _≤_, _<_}
 use mathlib.Core.Path.{_≡_, refl, sym, ap, _∙_}
 use mathlib.Core.Bool.{Bool, true, false, cond}
@@ -110,3 +111,27 @@ module _ (text part more : List ℕ) where
   pub linesFrom-open : length part ≤ partLength 10 part → linesFrom text (part ++ more) ≡ linesFrom (text ++ part) more
   unfolding linesFrom
   linesFrom-open h = ap (λ (l : List (List ℕ)). withoutEmptyLast (onto text l)) (split-open more part h) ∙ ap withoutEmptyLast (onto-onto text part (split 10 more))
+
+-- ---- of a whole input
+
+pub linesOf-none : linesOf [] ≡ []
+unfolding linesOf split withoutEmptyLast
+linesOf-none = refl
+
+pub linesOf-ended : (input : List ℕ) → partLength 10 input < length input
+    → linesOf input ≡ take (partLength 10 input) input ∷ linesOf (drop (partLength 10 input + 1) input)
+linesOf-ended input h =
+    let first = take (partLength 10 input) input in
+    let rest = drop (partLength 10 input + 1) input in
+    sym (linesFrom-none input)
+    ∙ sym (ap (linesFrom []) (append-nil input))
+    ∙ linesFrom-ended [] input [] h
+    ∙ ap (λ (l : List (List ℕ)). first ∷ l) (ap (linesFrom []) (append-nil rest) ∙ linesFrom-none rest)
+
+pub linesOf-open : (input : List ℕ) → 0 < length input → length input ≤ partLength 10 input → linesOf input ≡ input ∷ []
+linesOf-open [] p h = absurd (omega arith)
+linesOf-open (b ∷ input) p h =
+    sym (linesFrom-none (b ∷ input))
+    ∙ sym (ap (linesFrom []) (append-nil (b ∷ input)))
+    ∙ linesFrom-open [] (b ∷ input) [] h
+    ∙ linesFrom-end-some b input

@@ -1,6 +1,6 @@
 -- Decimal digits: how many there are, and how they are written from the last one on. By induction on the count of steps. Assumes nothing.
 --     leading-none, leading-step           the digits of 0, and of a number that is not 0: those of its tenth, and the last
---     digits-length                        a number below 2^64 has at most 20
+--     digits-le, digits-length             by a number's size; a number below 2^64 has at most 20
 --     rest-room, rest-less, rest-next      the digits written from the last one on
 --     numeral-plain, -zero, -minus, -length    a number with its sign
 use Prim.Native.Nat.{ℕ, zero, suc, _+_, _-_, _/_, _%_, _^_, _≤_, _<_}
@@ -44,9 +44,12 @@ leading-length (suc k) n h =
       | no f ↦ rw (leading-step n (omega arith)) (omega (arith, length-append (leading (n / 10)) ((48 + n % 10) ∷ []), leading-length k (n / 10) (omega arith)))
     ]
 
-pub digits-length : (n : ℕ) → n < 2 ^ 64 → length (digits n) ≤ 20
+pub digits-le : (k n : ℕ) → n / 10 < 10 ^ k → length (digits n) ≤ k + 1
 unfolding digits
-digits-length n h = omega (arith, length-append (leading (n / 10)) ((48 + n % 10) ∷ []), leading-length 19 (n / 10) (omega arith))
+digits-le k n h = omega (arith, length-append (leading (n / 10)) ((48 + n % 10) ∷ []), leading-length k (n / 10) h)
+
+pub digits-length : (n : ℕ) → n < 2 ^ 64 → length (digits n) ≤ 20
+digits-length n h = omega (arith, digits-le 19 n (omega arith))
 
 -- ---- the digits written from the last one on
 module _ (text : List ℕ) (at rest : ℕ) where

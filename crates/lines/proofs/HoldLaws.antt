@@ -6,14 +6,16 @@
 --     holds-whole, holds-text              whether all bytes are kept, and which
 --     added-append                         bytes added one after another
 --     written-added, written-text          a text written to a line
-use Prim.Native.Nat.{ℕ, suc, _+_, _-_, _≤_, _<_}
+--     kept-bytes                           the bytes of a line that are kept
+use Prim.Native.Nat.{ℕ, suc, _+_, _-_, _≤_, _<_, min}
+use native.Mathlib.Nat.{min-eq-left, min-eq-right}
 use native.Mathlib.Numerals.{add-one}
 use native.Mathlib.Decide.{decLe}
 use native.Mathlib.Omega.{arith}
 use mathlib.Core.Path.{_≡_, refl, sym, ap, _∙_, subst}
 use mathlib.Core.List.{List, [], _∷_, _++_, append-nil}
 use lib.ListN.{length, take, set, replicate, length-set, length-append, length-replicate}
-use lib.Seq.{take-suc-set, take-append-seam, append-snoc}
+use lib.Seq.{take-all, take-suc-set, take-append-seam, append-snoc}
 use lib.Dec.{leb}
 use borrow.Author.Tests.{lt-leb}
 use Rattle.lines.specs.declared.Line.{Line}
@@ -114,3 +116,12 @@ added-append (b ∷ xs) ys l = added-append xs ys (withByte l b)
 pub written-text : (text : List ℕ) → lineText (written text) ≡ text
 unfolding lineText
 written-text text = take-append-seam text (replicate (120 - length text) 0)
+
+-- a line has room for 120 bytes
+pub kept-bytes : (l : Line) (n : ℕ) → length (l .bytes) ≡ 120 → n ≡ min (l .length) 120 → take n (l .bytes) ≡ lineText l
+unfolding lineText
+kept-bytes l n room e =
+    elim (decLe (l .length) 120) [
+      | yes h ↦ ap (λ (k : ℕ). take k (l .bytes)) (e ∙ min-eq-left h)
+      | no f ↦ ap (λ (k : ℕ). take k (l .bytes)) (e ∙ min-eq-right (omega arith)) ∙ take-all 120 (l .bytes) (omega (arith, room)) ∙ sym (take-all (l .length) (l .bytes) (omega (arith, room)))
+    ]

@@ -8,6 +8,7 @@
 --     CollectLaws  one call of `collect`, in terms of the lines of the whole input
 --     DigitLaws    decimal digits, how many there are, and written from the last one on
 --     DecimalLaws  decimal digits are the number's
+--     SumLaws      the checksum of bytes one after another
 --     Claims       a number's digits are read as that number
 --     Computed     lines, numbers and digits, computed
 pub mod SplitLaws
@@ -19,5 +20,6 @@ pub mod HoldLaws
 pub mod CollectLaws
 pub mod DigitLaws
 pub mod DecimalLaws
+pub mod SumLaws
 pub mod Computed
 pub mod Claims

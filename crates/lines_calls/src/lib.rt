@@ -1,8 +1,9 @@
-// Lines collected from parts of any size, their fields, words and numbers: the calls on the definitions of `lines` (scope paper, "The sheet program").
+// Lines collected from parts of any size, their fields, words and numbers, and checksums: the calls on the definitions of `lines` (scope paper, "The sheet program").
 ghost use mathlib.Core.Path.{_≡_};
 ghost use Rattle.lines.specs.Texts.{partLength, sameText};
 ghost use Rattle.lines.specs.Numbers.{wellBegun, numberOf, withMinus, signedOf, noNumbers, numbersBehind};
 ghost use Rattle.lines.specs.Digits.{digits, numeral, signed};
+ghost use Rattle.lines.specs.Sums.{mixed, checksum};
 ghost use Rattle.lines.specs.Collecting.{emptyLine, added, isWhole, startLines, nextLines, collected};
 use lines::Collected;
 use lines::Line;
@@ -276,4 +277,25 @@ pub fn add_signed(line: Line, minus: bool, n: u64) -> Line
     }
     let begun = add(line, b"-");
     add_number(begun, n)
+}
+
+// ---- checksums
+// A checksum with one byte more.
+fn mixed_in(sum: u64, b: u8) -> u64
+    ensures { λ r. ⌜ r ≡ mixed sum b ⌝ }
+{
+    (sum % 4294967296 * 65599 + b as u64 + 1) % 4294967296
+}
+
+// A checksum with more bytes.
+pub fn summed(before: u64, text: &[u8]) -> u64
+    ensures { λ r. ⌜ r ≡ checksum before (now (text .entry)) ⌝ }
+{
+    let mut sum = before;
+    let mut i = 0;
+    while i < text.len() {
+        sum = mixed_in(sum, text[i]);
+        i += 1;
+    }
+    sum
 }

@@ -3,7 +3,7 @@ use Prim.Native.Nat.{ℕ, _+_, _*_}
 
 -- the version of the header
 abbrev pub version : ℕ
-version = 8
+version = 9
 
 -- words of a layout, and of a slot
 abbrev pub layoutSize : ℕ

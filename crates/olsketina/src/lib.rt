@@ -7,6 +7,7 @@ pub mod atom_calls;
 pub mod cube_calls;
 pub mod lookup_calls;
 mod lut_words;
+pub mod mend_calls;
 pub mod paint_calls;
 pub mod pixel_calls;
 pub mod ready_calls;

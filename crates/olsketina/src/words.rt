@@ -10,7 +10,7 @@ use pixels::PixelSetting;
 use weights::WeightLayout;
 
 // The header's macros of the same names.
-pub(crate) const VERSION: u32 = 8;
+pub(crate) const VERSION: u32 = 9;
 
 pub(crate) const LAYOUT_WORDS: usize = 7;
 

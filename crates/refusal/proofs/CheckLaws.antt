@@ -8,16 +8,16 @@
 --     leaves-done, leaves-before          what a call leaves, by its answer
 --     leaves-ap, leaves-same              a part of what a call leaves
 --     result-given, result-refused        what a call gives, by its answer
---     quantity-given                      a number was given: the call was accepted, and it is its number
+--     quantity-given, quantity-refused    a number was given: the call was accepted, and it is its number; or it was refused so
 use Prim.Native.Nat.{ℕ}
 use native.Mathlib.Omega.{arith}
-use mathlib.Core.Path.{_≡_, refl, sym, _∙_}
+use mathlib.Core.Path.{_≡_, refl, sym, ap, _∙_}
 use mathlib.Core.Bool.{Bool, true, false}
 use mathlib.Core.List.{List, [], _∷_, _++_}
 use Rattle.refusal.specs.declared.Refusal.{Refusal}
 use Rattle.refusal.specs.declared.Answer.{Answer}
 use Rattle.refusal.specs.declared.Answer.the-variants.{Accepted, Refused}
-use Rattle.refusal.specs.declared.Quantity.the-variants.{Is}
+use Rattle.refusal.specs.declared.Quantity.the-variants.{Is, Refused as NotGiven}
 use Rattle.refusal.specs.Checks.{requireAt, inOrder, leaves, result, quantity}
 
 pub requireAt-true : (i : ℕ) (r : Refusal) {b : Bool} → b ≡ true → requireAt i r b ≡ Accepted
@@ -135,3 +135,8 @@ pub quantity-given : (a : Answer) (n m : ℕ) → quantity a n ≡ Is m → (a �
 unfolding result
 quantity-given Accepted n m e = (refl, cc)
 quantity-given (Refused r i) n m e = absurd (let z : _≡_ {A = ℕ} 0 1 = cc in omega arith)
+
+pub quantity-refused : (a : Answer) (n : ℕ) (r : Refusal) (at : ℕ) → quantity a n ≡ NotGiven r at → a ≡ Refused r at
+unfolding result
+quantity-refused Accepted n r at e = absurd (let z : _≡_ {A = ℕ} 0 1 = cc in omega arith)
+quantity-refused (Refused r′ at′) n r at e = let same : (r′ ≡ r) × (at′ ≡ at) = (cc, cc) in ap (λ (x : Refusal). Refused x at′) (same .0) ∙ ap (λ (i : ℕ). Refused r i) (same .1)

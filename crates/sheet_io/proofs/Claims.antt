@@ -4,9 +4,10 @@ use mathlib.Core.Path.{_≡_}
 use mathlib.Core.List.{flatten}
 use lib.ListN.{length}
 use Rattle.lines.specs.Texts.{linesOf}
+use Rattle.lines.specs.Sums.{checksum}
 use Rattle.script.specs.Output.{output}
 use Rattle.sheet_io.specs.declared.Printed.{Printed}
-use Rattle.sheet_io.specs.Printing.{checksum, Whole}
+use Rattle.sheet_io.specs.Printing.{Whole}
 use Rattle.sheet_io.proofs.PrintLaws.{whole-text}
 
 -- the header, the row of each line and no more: the whole output of all that was read, if it has fewer than 2^64 lines

@@ -1,23 +1,18 @@
--- The checksum of bytes one after another, and of the rows that calls gave. Assumes nothing.
---     checksum-end, checksum-next      bytes mixed in from a byte on
---     kept-text                        the bytes of a line that are kept
+-- The checksum of the rows that calls gave. Assumes nothing.
 --     call-printed                     one call for a part, before the calls after it
 --     reading-none, reading-more       no part is read, one part more
 --     reading-end, reading-whole       the end of the input
 --     whole-text                       the whole output
-use Prim.Native.Nat.{ℕ, _+_, _-_, _^_, _≤_, _<_, min}
-use native.Mathlib.Nat.{min-eq-left, min-eq-right}
-use native.Mathlib.Numerals.{add-one}
-use native.Mathlib.Decide.{decLe}
-use native.Mathlib.Omega.{arith}
+use Prim.Native.Nat.{ℕ, _+_, _-_, _^_, _<_}
 use mathlib.Core.Path.{_≡_, refl, sym, ap, _∙_}
 use mathlib.Core.List.{List, [], _∷_, _++_, flatten, append-assoc, append-nil}
-use lib.ListN.{length, take, drop, getD, drop-of-length-le}
-use lib.Seq.{drop-cons, take-all}
+use lib.ListN.{length, take, drop}
 use Rattle.lines.specs.declared.Line.{Line}
 use Rattle.lines.specs.Texts.{linesOf}
 use Rattle.lines.specs.Collecting.{lineText, written}
+use Rattle.lines.specs.Sums.{checksum}
 use Rattle.lines.proofs.HoldLaws.{written-text}
+use Rattle.lines.proofs.SumLaws.{checksum-append}
 use Rattle.script.specs.declared.Sheet.{Sheet}
 use Rattle.script.specs.declared.Fed.{Fed}
 use Rattle.script.specs.declared.Row.{Row}
@@ -29,32 +24,7 @@ use Rattle.script.proofs.CallLaws.{part-next}
 use Rattle.script.proofs.OutputLaws.{handed-over}
 use Rattle.script.proofs.Claims.{output-cut}
 use Rattle.sheet_io.specs.declared.Printed.{Printed}
-use Rattle.sheet_io.specs.Printing.{mixed, checksum, rowsText, startPrinted, callsPrinted, partPrinted, partsPrinted, endPrinted, Reading, Whole}
-
--- ---- bytes
-
-module _ (sum : ℕ) (text : List ℕ) (i : ℕ) where
-  pub checksum-end : length text ≤ i → sum ≡ checksum sum (drop i text)
-  unfolding checksum
-  checksum-end h = sym (ap (checksum sum) (drop-of-length-le text {i = i} h))
-
-  pub checksum-next : i < length text → checksum (mixed sum (getD text i 0)) (drop (i + 1) text) ≡ checksum sum (drop i text)
-  unfolding checksum
-  checksum-next h = rw (drop-cons text i 0 h, add-one i)
-
-checksum-append : (xs ys : List ℕ) (sum : ℕ) → checksum sum (xs ++ ys) ≡ checksum (checksum sum xs) ys
-unfolding checksum
-checksum-append [] ys sum = refl
-checksum-append (b ∷ xs) ys sum = checksum-append xs ys (mixed sum b)
-
--- a line has room for 120 bytes
-pub kept-text : (l : Line) (n : ℕ) → length (l .bytes) ≡ 120 → n ≡ min (l .length) 120 → take n (l .bytes) ≡ lineText l
-unfolding lineText
-kept-text l n room e =
-    elim (decLe (l .length) 120) [
-      | yes h ↦ ap (λ (k : ℕ). take k (l .bytes)) (e ∙ min-eq-left h)
-      | no f ↦ ap (λ (k : ℕ). take k (l .bytes)) (e ∙ min-eq-right (omega arith)) ∙ take-all 120 (l .bytes) (omega (arith, room)) ∙ sym (take-all (l .length) (l .bytes) (omega (arith, room)))
-    ]
+use Rattle.sheet_io.specs.Printing.{rowsText, startPrinted, callsPrinted, partPrinted, partsPrinted, endPrinted, Reading, Whole}
 
 -- ---- calls and parts
 

@@ -1,20 +1,13 @@
 -- What a run of the sheet program gave to write, by a checksum of all its bytes (scope paper, "The sheet program"): a program keeps no list of what it
 -- wrote. Assumes nothing.
-use Prim.Native.Nat.{ℕ, _+_, _*_, _%_}
+use Prim.Native.Nat.{ℕ}
 use mathlib.Core.Path.{_≡_}
 use mathlib.Core.List.{List, [], _∷_, map, flatten}
+use Rattle.lines.specs.Sums.{checksum}
 use Rattle.script.specs.declared.Row.{Row}
 use Rattle.script.specs.Feed.{Outcome, startSheet, finished, wholePart}
 use Rattle.script.specs.Output.{header, rowText, givenText, outputOfParts}
 use Rattle.sheet_io.specs.declared.Printed.{Printed}
-
--- one byte more
-unfoldable pub mixed : ℕ → ℕ → ℕ
-mixed sum b = (sum % 4294967296 * 65599 + b + 1) % 4294967296
-
-unfoldable pub checksum : ℕ → List ℕ → ℕ
-checksum sum [] = sum
-checksum sum (b ∷ bytes) = checksum (mixed sum b) bytes
 
 abbrev pub rowsText : List Row → List ℕ
 rowsText rows = flatten (map rowText rows)

@@ -4,7 +4,8 @@
 ghost use mathlib.Core.Path.{_≡_};
 ghost use Prim.Native.Nat.{min};
 ghost use Rattle.lines.specs.Collecting.{lineText};
-ghost use Rattle.sheet_io.specs.Printing.{mixed, checksum, startPrinted, partPrinted, endPrinted, Reading, Whole};
+ghost use Rattle.lines.specs.Sums.{checksum};
+ghost use Rattle.sheet_io.specs.Printing.{startPrinted, partPrinted, endPrinted, Reading, Whole};
 use libc::STDIN_FILENO;
 use libc::STDOUT_FILENO;
 use lines::Line;
@@ -14,26 +15,6 @@ use script::Sheet;
 pub struct Printed {
     pub sheet: Sheet,
     pub sum: u64,
-}
-
-// A checksum with one byte more.
-fn mixed_in(sum: u64, b: u8) -> u64
-    ensures { λ r. ⌜ r ≡ mixed sum b ⌝ }
-{
-    (sum % 4294967296 * 65599 + b as u64 + 1) % 4294967296
-}
-
-// A checksum with more bytes.
-fn summed(before: u64, text: &[u8]) -> u64
-    ensures { λ r. ⌜ r ≡ checksum before (now (text .entry)) ⌝ }
-{
-    let mut sum = before;
-    let mut i = 0;
-    while i < text.len() {
-        sum = mixed_in(sum, text[i]);
-        i += 1;
-    }
-    sum
 }
 
 // How many bytes of a line of so many are kept.
@@ -60,7 +41,7 @@ fn write(shown: bool, sum: u64, text: Line) -> u64
     let n = kept(text.length);
     let bytes = text.bytes;
     show(shown, &bytes[..n]);
-    summed(sum, &bytes[..n])
+    lines_calls::summed(sum, &bytes[..n])
 }
 
 // Feeds a part of the input until all of it is read, and writes what each call gives.

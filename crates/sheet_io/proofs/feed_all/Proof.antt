@@ -7,10 +7,11 @@ use mathlib.Core.List.{flatten}
 use lib.ListN.{length, take, drop, length-drop}
 use lib.Seq.{length-take-le}
 use borrow.Author.Needs.{needs}
+use Rattle.lines.specs.Sums.{checksum}
 use Rattle.script.specs.declared.Fed.{Fed}
 use Rattle.script.specs.Feed.{partFed, wholePart}
 use Rattle.script.proofs.Claims as script
-use Rattle.sheet_io.specs.Printing.{checksum, callsPrinted, partPrinted}
+use Rattle.sheet_io.specs.Printing.{callsPrinted, partPrinted}
 use Rattle.sheet_io.proofs.PrintLaws.{call-printed}
 use Rattle.sheet_io.proofs.feed_all.Statement.{statement}
 use Rattle.sheet_io.proofs.feed_all.Tie as tie

@@ -7,8 +7,8 @@ use lib.ListN.{length}
 use lib.Seq.{length-take-le}
 use borrow.Author.Needs.{needs}
 use Rattle.general.proofs.ListLaws.{length-mapped}
-use Rattle.sheet_io.specs.Printing.{checksum}
-use Rattle.sheet_io.proofs.PrintLaws.{kept-text}
+use Rattle.lines.specs.Sums.{checksum}
+use Rattle.lines.proofs.HoldLaws.{kept-bytes}
 use Rattle.sheet_io.proofs.write.Statement.{statement}
 use Rattle.sheet_io.proofs.write.Tie as tie
 
@@ -43,7 +43,7 @@ returns : tie.Need-returns
 returns c =
     let k = c .before .before .before .before .before in
     let a = k .before .args in
-    c .summed .ensures ∙ ap (checksum (a .sum)) (kept-text (a .text) (k .kept .result) (room k) (k .kept .ensures))
+    c .summed .ensures ∙ ap (checksum (a .sum)) (kept-bytes (a .text) (k .kept .result) (room k) (k .kept .ensures))
 
 pub write-spec : {M : Type 1} → statement M
 write-spec =

@@ -1,14 +1,14 @@
--- `sheet_io::summed` meets its contract. The loop's invariant: the rest of the bytes mixed into the checksum so far come to all of them. The measure is
+-- `lines_calls::summed` meets its contract. The loop's invariant: the rest of the bytes mixed into the checksum so far come to all of them. The measure is
 -- what is left of the bytes. Assumes nothing.
 use Prim.Native.Nat.{ℕ, _+_, _-_, _≤_}
 use mathlib.Core.Path.{_≡_, refl, ap, _∙_}
 use native.Mathlib.Omega.{arith}
 use borrow.Author.Needs.{needs}
 use lib.ListN.{length, drop}
-use Rattle.sheet_io.specs.Printing.{checksum}
-use Rattle.sheet_io.proofs.PrintLaws.{checksum-end, checksum-next}
-use Rattle.sheet_io.proofs.summed.Statement.{statement}
-use Rattle.sheet_io.proofs.summed.Tie as tie
+use Rattle.lines.specs.Sums.{checksum}
+use Rattle.lines.proofs.SumLaws.{checksum-end, checksum-next}
+use Rattle.lines_calls.proofs.summed.Statement.{statement}
+use Rattle.lines_calls.proofs.summed.Tie as tie
 
 abbrev Inv-loop : tie.InvT-loop
 Inv-loop before text sum₀ i₀ sum i = (i ≤ length text) × (checksum sum (drop i text) ≡ checksum sum₀ text)

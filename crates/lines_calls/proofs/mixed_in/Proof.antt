@@ -1,9 +1,9 @@
--- `sheet_io::mixed_in` meets its contract. Assumes nothing.
+-- `lines_calls::mixed_in` meets its contract. Assumes nothing.
 use mathlib.Core.Path.{refl}
 use borrow.Author.Needs.{needs}
-use Rattle.sheet_io.specs.Printing.{mixed}
-use Rattle.sheet_io.proofs.mixed_in.Statement.{statement}
-use Rattle.sheet_io.proofs.mixed_in.Tie as tie
+use Rattle.lines.specs.Sums.{mixed}
+use Rattle.lines_calls.proofs.mixed_in.Statement.{statement}
+use Rattle.lines_calls.proofs.mixed_in.Tie as tie
 
 mul-result : tie.Need-mul-result
 mul-result c = search needs

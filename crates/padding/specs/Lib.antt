@@ -1,0 +1,3 @@
+pub mod Mending
+pub mod Calls
+pub mod Files

@@ -1,0 +1,3 @@
+pub mod StretchLaws
+pub mod DoneLaws
+pub mod GoesLaws
