@@ -22,7 +22,7 @@
 
 /* The header's version; olsketina_version() gives the archive's. It grows with every change of a call, of its answers or of a word's
  * meaning. */
-#define OLSKETINA_VERSION 8
+#define OLSKETINA_VERSION 9
 
 /* A parameter that points to (at least) n elements; a result that must be looked at. */
 #ifdef __cplusplus
@@ -162,6 +162,16 @@ OLSKETINA_NODISCARD uint32_t olsketina_cube_unpack(
 OLSKETINA_NODISCARD uint32_t olsketina_cube_position(
     const uint32_t layout[OLSKETINA_WORDS(OLSKETINA_LAYOUT_WORDS)],
     uint32_t channel, uint32_t row, uint32_t column, uint64_t *value, size_t *fault);
+
+/* Mends a part of a file that holds a cube from the layout's start on: each padding byte of the part that is not 0 becomes 0 and is reported, its
+ * position in the file in positions and what stood there in olds, ascending; how many they are is stored in *count. Every other byte stays, and
+ * every place past the report. `first` is the position of the part's first byte, `length` the file's length; the part may begin and end anywhere,
+ * and a file mended part by part, in whatever parts, is the file mended whole, its reports joined the whole report.
+ * Order: 1, 2, 3, 4, 5 (the cube or the part ends past the file's length, an empty part too), 18 (positions or olds has fewer places than the part
+ * has bytes). */
+OLSKETINA_NODISCARD uint32_t olsketina_padding_mend(
+    const uint32_t layout[OLSKETINA_WORDS(OLSKETINA_LAYOUT_WORDS)], uint64_t first, uint64_t length,
+    uint8_t *part, size_t part_len, uint64_t *positions, size_t positions_len, uint8_t *olds, size_t olds_len, uint64_t *count, size_t *fault);
 
 /* ---- atoms in scan order: columns fastest, then rows, then surfaces */
 

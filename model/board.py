@@ -14,6 +14,7 @@ import bulk
 import camera
 import cube
 import lut
+import padding
 import parlour
 import pixels
 import quantize
@@ -30,6 +31,7 @@ MARK = "# cases of your own go below this line"
 
 ROOM = {"elements": 307200, "buffer": 2457600, "samples": 65536}
 OUTPUTS_MAX = 65536
+PLACES_MAX = 65536
 CUTS_MAX = 400
 ROW = 32
 S32_MIN = -2147483648
@@ -113,6 +115,11 @@ def checksum(values):
     return s
 
 
+def halves(position):
+    """A position as two members of a checksum: modulo 2^32, and divided by it."""
+    return position % 4294967296, position // 4294967296
+
+
 def rows(name, values):
     """The values, 32 a line; no line if there are none."""
     texts = [f"{v:02x}" for v in values] if name == "buffer" else [str(v) for v in values]
@@ -173,6 +180,8 @@ COMMANDS = {
     "whose": ("n" * 7 + "p", set(), set()),
     "walk": ("n" * 7, {"buffer"}, PACKED),
     "step": ("w" * 12, set(), {"elements"}),
+    "mend part": ("n" * 7 + "wwnnn", {"buffer"}, {"buffer"}),
+    "mend file": ("n" * 8, {"buffer"}, {"buffer"}),
 }
 
 
@@ -338,6 +347,37 @@ class Board:
         told = "none left" if at is None else f"at {at}"
         return [" ".join(["0 0", told, "walk", *map(str, after)]), *rows("buffer", stored)]
 
+    # --- mending ---
+
+    def on_part(self, given):
+        """`mend part`: the buffer is a part of a file; all places of a report are one number before."""
+        q, (first, length) = cube.CubeLayout(*given[:7]), (number % walk.U64_SIZE for number in given[7:9])
+        if max(given[9:11]) > PLACES_MAX:
+            raise Unreadable
+        places = [given[11]] * given[9], bytes([given[11] % 256]) * given[10]
+        code, index, n, after, positions, olds = padding.mend(q, first, length, self.lists["buffer"], *places)
+        self.lend("buffer", after)
+        head = f"{code} {index} {n}"
+        if self.sums:
+            sums = checksum(word for p in positions for word in halves(p)), checksum(olds), checksum(after)
+            return [" ".join(map(str, (head, *sums)))]
+        return [head, *rows("positions", positions), *rows("buffer", olds), *rows("buffer", after)]
+
+    def on_file(self, given):
+        """`mend file`: the buffer is a whole file, mended in parts; what the program holds against it is asserted."""
+        q, source, size = cube.CubeLayout(*given[:7]), self.lists["buffer"], given[7]
+        if size == 0 or max(size, len(source)) > PLACES_MAX:
+            raise Unreadable
+        code, dirt, after = padding.check(q, size, source)
+        assert code or not self.holds_packed(q) or not dirt
+        self.lend("buffer", after)
+        head = f"{code} 0 {len(dirt)} {checksum(number for p, old in dirt for number in (*halves(p), old))} same"
+        return [f"{head} {checksum(after)}"] if self.sums else [head, *rows("buffer", after)]
+
+    def holds_packed(self, q):
+        """Whether the buffer is a packed one of this layout, with edits, leavings and paintings or without."""
+        return bool(self.packed and self.packed[0] == q or self.picture and self.picture.layout == q)
+
     # --- region tables ---
 
     def on_table(self, name, given):
@@ -478,6 +518,10 @@ class Board:
             return self.on_walk(given)
         if name == "step":
             return self.on_step(given)
+        if name == "mend part":
+            return self.on_part(given)
+        if name == "mend file":
+            return self.on_file(given)
         if name in ("desk", "place", "hand slot", "hand layout"):
             return self.on_table(name, given)
         if name == "ready":

@@ -10,6 +10,7 @@ from itertools import count, groupby
 import camera_cases
 import cube_cases
 import lut_cases
+import padding_cases
 import parlour_cases
 import pixels_cases
 import quantize_cases
@@ -87,6 +88,21 @@ def walk_lines(t):
         yield said("walk", *t[1:8])
     if t.op == walk_cases.BESIDE:
         yield said("pack", *t[1:8])
+
+
+# --- mending ---
+
+def mend_lines(t):
+    """A part of a file, or a whole one, some packed before."""
+    if t.op == padding_cases.CLEAN:
+        yield from element_lines(t)
+    yield said("draw buffer", t.m, seed())
+    if t.op == padding_cases.PART:
+        yield said("mend part", *t[1:8], *map(wide, t[8:10]), *t[10:13])
+        return
+    if t.op == padding_cases.CLEAN:
+        yield said("pack", *t[1:8])
+    yield said("mend file", *t[1:9])
 
 
 # --- sessions ---
@@ -219,6 +235,6 @@ def lines():
     kinds = ((cube_cases, call_lines), (weights_cases, call_lines), (pixels_cases, call_lines),
              (quantize_cases, conversion_lines), (lut_cases, (lookups := Lookups()).lines),
              (camera_cases, lookups.lines), (regions_cases, session_lines), (sheet_cases, sheet_lines),
-             (parlour_cases, session_lines), (walk_cases, walk_lines))
+             (parlour_cases, session_lines), (walk_cases, walk_lines), (padding_cases, mend_lines))
     return ["# drawn cases", "print sums"] + [text for cases, said_of in kinds for t in cases.all_cases()
                                               for text in said_of(t)]

@@ -2,19 +2,21 @@
 
 Beside them stand inputs on which readings of "Cells and cubes", "Stalls",
 "Weights", "Pixels", "Two tables", "The sheet program", "Refusal numbers" and of
-change requests K1, K2, K3, K5, K6 and K7 part.
+change requests K1, K2, K3, K5, K6, K7 and K8 part.
 Prints nothing if all hold.
 """
 
 from itertools import product
 
 import camera
+import mend
+import padding
 import pixels
 import sheet
 import walk
 import weights
-from cube import (Box, CubeLayout, box_positions, element_check, element_position, extent, nan_count, pack, position,
-                  read_box, surface_count, unpack, whole_box, write_box)
+from cube import (Box, CubeLayout, box_positions, byte_owner, element_check, element_position, extent, nan_count, pack,
+                  position, read_box, surface_count, unpack, whole_box, write_box)
 from lut import (EXPONENTIAL, LINEAR, OVERFLOW, PRIORITY, S32_MAX, S32_MIN, UNDERFLOW, X_ONLY,
                  LutSettings, Slope, XSettings, YSettings, linear_value, look, run, run_code, x_value)
 from parlour import Conversion, PlainPicture, paint
@@ -301,6 +303,58 @@ def any_walk():
     assert walk.step(first._replace(position=most - 32), [])[2].position == most
     last = first._replace(columns=1, rows=1, channels=32, position=most, index=most)
     assert walk.step(last, []) == (most, bytes(32), last._replace(columns=0, rows=0, channels=0))
+
+
+def padding_bytes():
+    """Change request K8: the padding of the paper's frame; of any small cube the bytes that are whose says, wherever a part is cut."""
+    assert padding.padding_positions(EXAMPLE, 0, 480) == [
+        256 + 128 * h + 32 * w + k for h, w, k in product(range(2), range(3), range(8, 32))]
+    assert padding.padding_positions(EXAMPLE._replace(channels=64), 0, 480) == []
+    for width, height, channels, precision, gap in product((1, 3), (1, 2), (1, 15, 16, 17, 31, 32, 33, 65), range(3),
+                                                           (0, 32)):
+        line = 32 * width + gap
+        q = CubeLayout(width, height, channels, precision, line, height * line + 2 * gap, gap)
+        end = gap + extent(q)[2] + 9
+        every = [p for p in range(end) if byte_owner(q, p) == ("padding",)]
+        for first, last in ((0, end), (0, 0), (end // 3, end // 2), (end - 40, end), (end // 2, end // 2 + 1)):
+            assert padding.padding_positions(q, first, last) == [p for p in every if first <= p < last]
+        source = bytes([238]) * end
+        _, dirt, after = padding.check(q, 37, source)
+        assert [p for p, _ in dirt] == every and after == bytes(0 if p in set(every) else 238 for p in range(end))
+        raw = [0] * (width * height * channels)
+        assert unpack(q, raw, after) == unpack(q, raw, source)
+        packed = pack(q, raw, source)[2]
+        assert padding.check(q, 37, packed) == (0, [], packed)
+
+
+def mending_readings():
+    """Change request K8: order, empty parts, sums past 64 bits, places that stay."""
+    def code(first=0, length=480, part=32, places=32, olds=32, **changes):
+        return padding.mend(EXAMPLE._replace(**changes), first, length, bytes(part), [7] * places, bytes(olds))[0]
+    most = 2 ** 64 - 1
+    assert code() == code(448) == code(480, part=0) == code(most, most, 0, 0, 0) == code(places=33, olds=40) == 0
+    assert code(length=479) == code(449) == code(481, part=0) == code(most - 31, most) == code(most - 30, most) == 5
+    assert code(places=31) == code(olds=31) == 18
+    assert code(start=1, length=0) == 4 and code(449, places=0) == code(length=479, olds=0) == 5
+    assert padding.mend(EXAMPLE, 262, 480, bytes([9, 9, 9, 0]), [7] * 5, bytes([6] * 4)) == (
+        0, 0, 1, bytes([9, 9, 0, 0]), [264, 7, 7, 7, 7], bytes([9, 6, 6, 6]))
+
+
+def mending_program():
+    """Open point 20: a refusal's number alone; which fault is told first; whose a line's shape is."""
+    files = {b"saved": bytes([9]) * 480, b"short": bytes(479), b"sub": mend.FOLDER, b"/dev/full": mend.FULL}
+    good, bad = b"frame\t3\t2\t40\t0\t128\t256\t0\n", b"frame\t3\t2\t40\t0\t128\t192\t0\n"
+
+    def printed(source):
+        return mend.run(source, files).printed
+    for source in (good + b"saved\nsaved", good + b"saved\nnew\n\n", good + b"saved\n\n", good + b"sa\tved\nnew",
+                   good + b"n" * 121 + b"\nnew", bad + b"missing\nnew", good + b"sub\nnew", good + b"saved\nsub"):
+        assert printed(source) == b"24\n"
+    assert printed(bad + b"saved\nsub") == b"3\n" and printed(good + b"short\nno/new") == b"5\n"
+    assert printed(good + b"saved\n/dev/full") == b"position\told\n24\n"
+    done = mend.run(good + b"saved\nnew", files)
+    assert done.printed.startswith(b"position\told\n264\t9\n265\t9\n") and done.printed.count(b"\n") == 145
+    assert mend.run(good + b"new\nagain", done.files).printed == b"position\told\n"
 
 
 def starred_weights():
@@ -606,6 +660,9 @@ if __name__ == "__main__":
     scan_order()
     walk_refusals()
     any_walk()
+    padding_bytes()
+    mending_readings()
+    mending_program()
     starred_weights()
     weight_order()
     lent_weights()

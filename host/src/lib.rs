@@ -31,6 +31,7 @@
 
 mod cubes;
 mod lookup;
+mod padding;
 mod paint;
 mod settings;
 mod sheet;

@@ -209,6 +209,8 @@ fn a_wrong_header_fails() {
         ("exchanged words of a walk", "#define OLSKETINA_WALK_LINE 9", "#define OLSKETINA_WALK_LINE 10", "static assertion"),
         ("half an atom", "#define OLSKETINA_ATOM_BYTES 32", "#define OLSKETINA_ATOM_BYTES 16", "static assertion"),
         ("a length of 32 bits", "size_t buffer_len, uint64_t walk", "uint32_t buffer_len, uint64_t walk", "incompatible"),
+        ("positions of 32 bits", "uint64_t *positions", "uint32_t *positions", "incompatible"),
+        ("a file's length before its part", "uint64_t first, uint64_t length", "uint64_t length, uint64_t first", "the parameters"),
     ];
     for (name, old, new, reason) in wrong {
         assert!(header.contains(old), "{name}: the header has no {old:?}");

@@ -6,7 +6,7 @@
 //     w  a number of 64 bits: such a natural number, or -k for 2^64 - k, k at most 2^31
 //     e  an element, a signed number of 16 bits   b  a byte, two hexadecimal digits
 //     E, B, S  any number of elements, bytes, samples (signed numbers of 32 bits)
-const TABLE: [u8; 844] = *b"elements:E\nbuffer:B\nsamples:S\ncells:ne\nfill:nb\n\
+const TABLE: [u8; 886] = *b"elements:E\nbuffer:B\nsamples:S\ncells:ne\nfill:nb\n\
 draw elements:nnens\ndraw buffer:nn\ndraw samples:nnsn\nmore elements:nnens\nmore buffer:nn\nmore samples:nnsn\ndraw curves:n\n\
 set element:ne\nprint all:\nprint sums:\n\
 show elements:\nshow buffer:\nshow samples:\nsum elements:\nsum buffer:\nsum samples:\n\
@@ -17,7 +17,7 @@ pixel setting:nnnnnnnn\n\
 position:nnnnnnnnnn\nextent:nnnnnnn\npixel position:nnnnnnnnnn\nconvert:seenn\ncurve x:n\ncurve y:n\n\
 x linear:ssseses\nx exponential:ssseses\ny:ssseses\nbits:nnn\ncounters:nnnnn\nready:snnn\nlookup:nnn\nsheet:\nwhose:nnnnnnnp\n\
 release:nn\nstall position:nnnnn\nstall count:nn\npaint:nnnnnnnnnneen\ncomputed x:n\ncomputed y:n\n\
-walk:nnnnnnn\nstep:wwwwwwwwwwww\n";
+walk:nnnnnnn\nstep:wwwwwwwwwwww\nmend part:nnnnnnnwwnnn\nmend file:nnnnnnnn\n";
 
 // The row of no command.
 pub const UNKNOWN: u32 = 255;
@@ -30,7 +30,7 @@ pub struct Found {
 
 // A byte of the table; from its end on, a newline.
 pub fn table_byte(i: usize) -> u8 {
-    if i < 844 { TABLE[i] } else { b'\n' }
+    if i < 886 { TABLE[i] } else { b'\n' }
 }
 
 // How many letters of a row are those of the name, after the letter c; 25 once the row has another name.
@@ -59,7 +59,7 @@ pub fn find(name: [u8; 24], length: usize) -> Found {
     let mut row = 0;
     let mut matched = 0;
     let mut i = 0;
-    while i < 844 {
+    while i < 886 {
         let c = table_byte(i);
         if c == b':' && matched == length {
             return Found {
@@ -83,7 +83,7 @@ pub fn find(name: [u8; 24], length: usize) -> Found {
 pub fn sets(command: u32) -> u32 {
     match command {
         0 | 3 | 5 | 8 | 11 | 12 | 25..=28 => 1,
-        1 | 4 | 6 | 9 | 21..=24 | 52 | 55 => 2,
+        1 | 4 | 6 | 9 | 21..=24 | 52 | 55 | 57..=58 => 2,
         2 | 7 | 10 => 4,
         29..=32 => 8,
         40..=41 => 16,
@@ -101,7 +101,7 @@ pub fn sets(command: u32) -> u32 {
 pub fn uses(command: u32) -> u32 {
     match command {
         8 | 12 | 15 | 18 | 56 => 1,
-        9 | 16 | 19 | 47 => 2,
+        9 | 16 | 19 | 47 | 57..=58 => 2,
         10 | 17 | 20 => 4,
         21..=23 | 25..=27 | 55 => 3,
         24 | 28 | 49 | 52 => 11,

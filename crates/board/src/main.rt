@@ -5,6 +5,7 @@ mod commands;
 mod line;
 mod lists;
 mod lookup;
+mod mending;
 mod numbers;
 mod paint;
 mod print;
@@ -49,6 +50,11 @@ fn drawn_from(command: u32, members: usize, counts: [usize; 3]) -> usize {
     }
 }
 
+// Whether a number is the length of a part of a file.
+fn is_size(n: u32) -> bool {
+    1 <= n && n <= 65536
+}
+
 // Whether the counts and the index of a line are within their limits.
 fn is_within(command: u32, numbers: [u64; 16], counts: [usize; 3]) -> bool {
     let n = natural(numbers, 0) as usize;
@@ -57,6 +63,8 @@ fn is_within(command: u32, numbers: [u64; 16], counts: [usize; 3]) -> bool {
         3..=11 => n <= most && drawn_from(command, 0, counts) <= most - n,
         12 => n < counts[0],
         46 => n <= counts[0] && natural(numbers, 1) <= 65536,
+        57 => natural(numbers, 9) <= 65536 && natural(numbers, 10) <= 65536,
+        58 => is_size(natural(numbers, 7)) && counts[1] <= 65536,
         _ => true,
     }
 }
@@ -169,6 +177,14 @@ fn run_lent(state: State, elements: &mut [i16], buffer: &mut [u8], samples: &mut
         }
         56 => {
             scan::step(line.number, numbers, elements, samples);
+            state
+        }
+        57 => {
+            mending::part(line.number, numbers, state.sums, elements, buffer, samples);
+            state
+        }
+        58 => {
+            mending::file(line.number, numbers, state.sums, elements, buffer, samples);
             state
         }
         _ => call(state, elements, buffer, samples),

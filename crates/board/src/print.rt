@@ -47,6 +47,15 @@ pub fn print_answer(line: u64, a: Answer) {
     print_natural(refusal::fault_index(a) as u64);
 }
 
+// What goes behind a number of a list.
+fn end_item(ends: bool) {
+    if ends {
+        end_line();
+    } else {
+        io::write_all(STDOUT_FILENO, b" ");
+    }
+}
+
 // A number of a list, two hexadecimal digits for a byte, and what goes behind it.
 pub fn print_item(hexadecimal: bool, ends: bool, v: u64) {
     if hexadecimal {
@@ -54,9 +63,20 @@ pub fn print_item(hexadecimal: bool, ends: bool, v: u64) {
     } else {
         print_lifted(v);
     }
-    if ends {
-        end_line();
+    end_item(ends);
+}
+
+// A natural number of a list, and what goes behind it.
+pub fn print_whole(n: u64, ends: bool) {
+    io::print_decimal(STDOUT_FILENO, n);
+    end_item(ends);
+}
+
+// Whether all is as it must be.
+pub fn print_same(same: bool) {
+    if same {
+        io::write_all(STDOUT_FILENO, b" same");
     } else {
-        io::write_all(STDOUT_FILENO, b" ");
+        io::write_all(STDOUT_FILENO, b" differs");
     }
 }

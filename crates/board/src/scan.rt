@@ -9,6 +9,7 @@ use crate::numbers::of_position;
 use crate::print::end_line;
 use crate::print::print_answer;
 use crate::print::print_natural;
+use crate::print::print_same;
 use crate::print::print_text;
 use layout::CubeLayout;
 use libc::STDOUT_FILENO;
@@ -132,7 +133,7 @@ fn has_none(walk: Walk, elements: &[i16]) -> bool {
 }
 
 // Whether two answers are the same.
-fn is_same(a: Answer, b: Answer) -> bool {
+pub fn is_same(a: Answer, b: Answer) -> bool {
     refusal::answer_code(a) == refusal::answer_code(b)
         && refusal::fault_index(a) == refusal::fault_index(b)
 }
@@ -156,11 +157,7 @@ fn print_scan(line: u64, answer: Answer, scan: Scan, same: bool) {
     print_answer(line, answer);
     print_natural(scan.atoms as u64);
     print_natural(scan.sum);
-    if same {
-        io::write_all(STDOUT_FILENO, b" same");
-    } else {
-        io::write_all(STDOUT_FILENO, b" differs");
-    }
+    print_same(same);
 }
 
 // Ends the answer of a walk from `first`: the positions of its atoms and the buffer, or checksums.

@@ -1,11 +1,14 @@
 -- The three lists before and after steps (specs/Steps.antt): no step, steps one after another, a byte, an atom, a stretch without padding. By the laws of a part
 -- whose first bytes are mended. Assumes nothing.
+--     zeros-none, zeros-more, zeros-less  bytes that are zero
 --     goes-none, goes-then                no step; steps one after another
---     goes-zero, goes-dirt                one byte of padding: zero, or not
+--     goes-zero, goes-dirt, goes-zeros    one byte of padding: zero, or not; zeros
 --     goes-skip, goes-atom, goes-atoms    bytes that are no padding; an atom's bytes; atoms, as a stretch
-use Prim.Native.Nat.{ℕ, suc, _+_, _-_, _%_, _≤_, _<_, min}
+use Prim.Native.Nat.{ℕ, zero, suc, _+_, _-_, _%_, _≤_, _<_, min}
+use native.Mathlib.Nat.{not-suc-le-zero}
+use native.Mathlib.Decide.{decLt}
 use native.Mathlib.Omega.{arith}
-use mathlib.Core.Path.{_≡_, refl, sym, ap, subst, _∙_}
+use mathlib.Core.Path.{_≡_, refl, sym, ap, subst, subst⁻¹, _∙_}
 use mathlib.Core.Logic.{_≢_}
 use mathlib.Core.Bool.{Bool, true, false, _&&_}
 use mathlib.Core.List.{List, map}
@@ -16,8 +19,26 @@ use Rattle.layout.specs.declared.CubeLayout.{CubeLayout}
 use Rattle.layout.specs.Owners.{owner}
 use Rattle.padding.specs.Mending.{Dirt, isDirty, reported}
 use Rattle.padding.specs.Calls.{Lent, filled}
-use Rattle.padding_calls.specs.Steps.{isPadding, Done, Goes}
+use Rattle.padding_calls.specs.Steps.{isPadding, Zeros, Done, Goes}
 use Rattle.padding_calls.proofs.DoneLaws.{zero-clean, padding-dirty, done-clean, done-byte, done-dirt, done-skip}
+
+-- ---- zeros
+
+pub zeros-none : (i : ℕ) (part : List ℕ) → Zeros i i part
+unfolding Zeros
+zeros-none i part x hi hx = absurd (let no : 0 < 0 = omega (arith, hi, hx) in not-suc-le-zero no)
+
+pub zeros-more : (from i : ℕ) (part : List ℕ) → Zeros from i part → getD part i 0 ≡ 0 → Zeros from (i + 1) part
+unfolding Zeros
+zeros-more from i part z e x hf hx =
+    elim (decLt x i) [
+      | yes h ↦ z x hf h
+      | no g ↦ let at : x ≡ i = omega (arith, g, hx) in ap (λ (k : ℕ). getD part k 0) at ∙ e
+    ]
+
+pub zeros-less : (from i to : ℕ) (part : List ℕ) → to ≤ i → Zeros from i part → Zeros from to part
+unfolding Zeros
+zeros-less from i to part h z x hf hx = z x hf (omega (arith, h, hx))
 
 -- a list of the report has a place for line n: so had the one that was lent
 place-left : (f : Dirt → ℕ) (report : List Dirt) (before now : List ℕ) (n : ℕ) → n ≡ length report → now ≡ filled (map f report) before → n < length now → n < length before
@@ -61,6 +82,22 @@ module _ (pads : ℕ → Bool) (first : ℕ) (part positions olds : List ℕ) wh
                 subst (λ (k : ℕ). Done q first l k n part positions olds) (omega arith)
                 (done-clean q first l i at n part positions olds (ap (isDirty (owner q (first + i))) byte ∙ zero-clean (owner q (first + i))) d);
           }
+
+  -- zeros stay, k of them from byte i on
+  zeros-kept : (k i n : ℕ) → i + k ≤ length part → n ≤ i → Zeros i (i + k) part → Goes pads first i (i + k) n n part positions olds part positions olds
+  unfolding Zeros
+  zeros-kept zero i n h hn z = subst (λ (j : ℕ). Goes pads first i j n n part positions olds part positions olds) (omega arith) (goes-none i n hn)
+  zeros-kept (suc k) i n h hn z =
+      subst (λ (j : ℕ). Goes pads first i j n n part positions olds part positions olds) (omega arith)
+      (goes-then i (i + k) (i + k + 1) n n n part positions olds part positions olds (omega arith) (omega arith)
+      (zeros-kept k i n (omega (arith, h)) hn (λ x hi hx. z x hi (omega (arith, hx))))
+      (goes-zero (i + k) n n part positions olds (omega (arith, h)) (omega (arith, hn)) (z (i + k) (omega arith) (omega arith)) (refl, refl, refl, refl)))
+
+  pub goes-zeros : (i j n : ℕ) → i ≤ j → j ≤ length part → n ≤ i → Zeros i j part → Goes pads first i j n n part positions olds part positions olds
+  goes-zeros i j n hij hj hn z =
+      let at : i + (j - i) ≡ j = omega (arith, hij) in
+      subst (λ (k : ℕ). Goes pads first i k n n part positions olds part positions olds) at
+      (zeros-kept (j - i) i n (omega (arith, at, hj)) hn (subst⁻¹ (λ (k : ℕ). Zeros i k part) at z))
 
   -- bytes that are no padding
   pub goes-skip : (i j n : ℕ) → i ≤ j → j ≤ length part → n ≤ i → ((x : ℕ) → i ≤ x → x < j → pads (first + x) ≡ false) → Goes pads first i j n n part positions olds part positions olds

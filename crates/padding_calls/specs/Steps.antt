@@ -4,7 +4,7 @@ use mathlib.Core.Path.{_≡_}
 use mathlib.Core.Bool.{Bool, true, false, _&&_}
 use mathlib.Core.List.{List, _++_, map}
 use lib.Dec.{leb}
-use lib.ListN.{length, take, drop}
+use lib.ListN.{length, getD, take, drop}
 use Rattle.layout.specs.declared.CubeLayout.{CubeLayout}
 use Rattle.layout.specs.Geometry.{sizeOf, surfaces}
 use Rattle.layout.specs.Owners.{Owner, element, padding, outside, owner}
@@ -33,6 +33,10 @@ pub record IsStretch (q : CubeLayout) (p : ℕ) (s : Stretch) : Type 0 where
   pub owners : (x : ℕ) → p ≤ x → x < s .end → isPadding (owner q x) ≡ (s .atoms && leb (elementsEnd q) (x % 32))
 
 -- ---- a part of which the first bytes are mended
+
+-- the bytes from `from` to `to` are zero
+unfoldable pub Zeros : ℕ → ℕ → List ℕ → Type 0
+Zeros from to part = (x : ℕ) → from ≤ x → x < to → getD part x 0 ≡ 0
 
 -- there is room for the steps from byte `from` to byte `to`, after n lines
 pub record Room (first from to n : ℕ) (part positions olds : List ℕ) : Type 0 where

@@ -8,7 +8,7 @@ ghost use Rattle.refusal.specs.declared.Answer.the-variants.{Accepted};
 ghost use Rattle.refusal.specs.Checks.{inOrder};
 ghost use Rattle.layout.specs.Rules.{layoutChecks};
 ghost use Rattle.padding.specs.Calls.{lent};
-ghost use Rattle.padding_calls.specs.Steps.{Room, Goes, Done};
+ghost use Rattle.padding_calls.specs.Steps.{Zeros, Room, Goes, Done};
 use crate::stretches;
 use layout::CubeLayout;
 
@@ -36,8 +36,24 @@ fn byte_of(position: u64, first: u64, end: usize) -> usize
     if (end as u64) < n { end } else { n as usize }
 }
 
+// Whether bytes of the part are all zero: by one pass to their end, which needs no test on the way.
+fn all_zero(from: usize, to: usize, part: &[u8]) -> bool
+    requires { ⌜ to ≤ length (now part) ⌝ }
+    ensures { λ r. ⌜ (r ≡ true → Zeros from to (now (part .entry))) ⌝ }
+{
+    let mut clean = true;
+    let mut i = from;
+    while i < to {
+        if part[i] != 0 {
+            clean = false;
+        }
+        i += 1;
+    }
+    clean
+}
+
 // Bytes that are all padding: each that is not zero is reported, and becomes zero. How many are reported then.
-fn clear(
+fn clear_each(
     first: u64,
     from: usize,
     to: usize,
@@ -62,6 +78,25 @@ fn clear(
         i += 1;
     }
     count
+}
+
+// The same, where most often all of them are zero already.
+fn clear(
+    first: u64,
+    from: usize,
+    to: usize,
+    n: usize,
+    part: &mut [u8],
+    positions: &mut [u64],
+    olds: &mut [u8],
+) -> usize
+    requires { ⌜ Room first from to n (now part) (now positions) (now olds) ⌝ }
+    ensures { λ r. ⌜ Goes (λ (x : ℕ). true) first from to n r (now (part .entry)) (now (positions .entry)) (now (olds .entry)) (now (part .exit)) (now (positions .exit)) (now (olds .exit)) ⌝ }
+{
+    if all_zero(from, to, part) {
+        return n;
+    }
+    clear_each(first, from, to, n, part, positions, olds)
 }
 
 // Bytes of a row's atoms: in each atom those from byte `pad` on are padding.

@@ -1,7 +1,7 @@
 //! The plain Rust loops that the benchmark sets beside the library: safe code that shares nothing with it. Settings and checks are the
 //! reference's; each function makes them first, in the paper's order, then runs its loops.
 
-use crate::reference::{cube, elements, lookup as plain_lookup, parlour, pixels, regions, weights};
+use crate::reference::{cube, elements, lookup as plain_lookup, padding, parlour, pixels, regions, weights};
 use olsketina::{Answer, Conversion, Counters, ElementBox, Image, Layout, Lookup, Mode, Slope, Table, TableSettings, Weights};
 use std::hint::black_box;
 use std::iter::repeat;
@@ -95,6 +95,41 @@ pub fn scan(layout: Layout, elements: &[i16], buffer: &mut [u8]) -> Answer<()> {
         }
     }
     Ok(())
+}
+
+/// Row by row of the last surface, atom by atom: the part of the atom's padding that lies in the part of the file.
+#[inline(never)]
+pub fn mend(layout: Layout, first: u64, length: u64, part: &mut [u8], positions: &mut [u64], olds: &mut [u8]) -> Answer<usize> {
+    padding::admitted(layout, [first, length], part.len(), [positions.len(), olds.len()])?;
+    let [_, [channels, rows, columns]] = whole(layout);
+    let [start, surface, line] = [layout.start, layout.surface, layout.line].map(|bytes| bytes as usize);
+    let bytes = channels * element_bytes(layout.precision);
+    let last = (bytes - 1) / ATOM;
+    let (used, from, to) = (bytes - last * ATOM, first as usize, first as usize + part.len());
+    let corner = start + last * surface;
+    let mut count = 0;
+    for h in from.saturating_sub(corner) / line..rows {
+        let row = corner + h * line;
+        if row >= to {
+            break;
+        }
+        for w in from.saturating_sub(row) / ATOM..columns.min((to - row).div_ceil(ATOM)) {
+            let atom = row + w * ATOM;
+            let [begin, end] = [(atom + used).clamp(from, to), (atom + ATOM).min(to)];
+            let padding = &mut part[begin - from..end.max(begin) - from];
+            if padding.iter().fold(0, |all, byte| all | byte) == 0 {
+                continue;
+            }
+            for (byte, position) in padding.iter_mut().zip(begin as u64..) {
+                if *byte != 0 {
+                    (positions[count], olds[count]) = (position, *byte);
+                    *byte = 0;
+                    count += 1;
+                }
+            }
+        }
+    }
+    Ok(count)
 }
 
 #[inline(never)]

@@ -1,6 +1,7 @@
 //! Times the library's calls in one thread and prints markdown tables: beside the plain Rust loops of loops.rs and a memcpy of the same traffic.
 //! docs/PERFORMANCE.md says how it is measured.
 
+use std::cell::RefCell;
 use std::hint::black_box;
 use std::ops::Range;
 use std::slice::from_ref;
@@ -40,8 +41,10 @@ enum Gives {
     Kinds(Counters),
     /// How many components of a painting were held.
     Held(u64),
+    /// How many padding bytes were not 0.
+    Mended(usize),
 }
-use Gives::{Held, Kinds, Nothing};
+use Gives::{Held, Kinds, Mended, Nothing};
 
 /// Nanoseconds of the best run and of the median one.
 type Times = [f64; 2];
@@ -298,6 +301,43 @@ fn paint(name: &str, repetitions: usize, [format, width, height, precision]: [u3
     measure(name, repetitions, cells, &pixels, &vec![LEFT; bytes], &written, calls)
 }
 
+/// A packed cube in parts of 64 KiB, mended; a cell is a byte. Its padding is clean; or one byte in `dirty`, on average, of each is dirty, and each
+/// part is copied before it is mended, so that it is dirty each time.
+fn mend(name: &str, repetitions: usize, words: [u32; 4], dirty: Option<u64>) -> Row {
+    const PART: usize = 1 << 16;
+    let (layout, elements, mut file) = cube(words);
+    layout.pack(&elements, &mut file).expect("accepted");
+    let (length, mut generator) = (file.len(), Generator::new(SEED));
+    let calls = [Layout::mend, loops::mend].map(|call| {
+        let places = RefCell::new((vec![0; PART], vec![0; PART]));
+        move |from: &[u8], to: &mut [u8]| {
+            let (positions, olds) = &mut *places.borrow_mut();
+            let mut mended = 0;
+            for (part, first) in to.chunks_mut(PART).zip((0..).step_by(PART)) {
+                if dirty.is_some() {
+                    part.copy_from_slice(&from[first..first + part.len()]);
+                }
+                mended += call(black_box(layout), first as u64, length as u64, part, positions, olds)?;
+            }
+            Ok(Mended(mended))
+        }
+    });
+    let Some(dirty) = dirty else {
+        return measure(name, repetitions, length, &[0], &file, from_ref(&(0..length)), calls);
+    };
+    file.iter_mut().for_each(|byte| *byte |= if generator.one_in(dirty) { 1 } else { 0 });
+    measure(name, repetitions, length, &file, &vec![LEFT; length], from_ref(&(0..length)), calls)
+}
+
+fn mends() -> [Row; 4] {
+    [
+        mend("mend 640×480×3 int8, clean", 41, [640, 480, 3, 0], None),
+        mend("mend 640×480×40 int8, clean", 41, [640, 480, 40, 0], None),
+        mend("copy and mend 640×480×3 int8, one byte in 600 dirty", 41, [640, 480, 3, 0], Some(600)),
+        mend("copy and mend 640×480×3 int8, every byte dirty", 41, [640, 480, 3, 0], Some(1)),
+    ]
+}
+
 /// The entries of the Y curve, a hundred times; a cell is a whole table. One byte stands for the input that there is not.
 fn curve(name: &str) -> Row {
     const TABLES: usize = 100;
@@ -358,7 +398,8 @@ fn print_table(title: &str, names: [&str; 3], rows: &[Row], number: usize) {
 const EXPLAINED: &str = "\
 One thread, timed by its own running time; release builds; every result was compared with the Rust loop's before timing.
 Figures are the best repetition, in brackets the median. A bar is met where both ratios meet it. Interrupted runs do not count, unless
-they are more than half. Of lookups in runs of 1 and 64 samples a cell is a run; of the curve a cell is a whole table, of walks an atom.
+they are more than half. Of lookups in runs of 1 and 64 samples a cell is a run; of the curve a cell is a whole table, of walks an atom, of
+mending a byte.
 
 Painting: (d - 100) * 3 over 2^shift to the nearest, shift 2 for int8 and 8 for int16, which holds no component; 1 where a third of them
 are held.
@@ -373,7 +414,17 @@ Samples of each kind (X only, Y only, underflow, overflow, priority):";
 /// The curve that is linked.
 const CURVE: &str = if cfg!(feature = "computed-curve") { "curve of 257 entries, computed" } else { "curve of 257 entries, stored" };
 
-/// With the word `curve`, the curve alone; with `walk`, the walks.
+/// How many padding bytes each row mends.
+fn print_mended(rows: &[Row]) {
+    println!("\nPadding bytes that were mended:");
+    for row in rows {
+        if let Mended(count) = row.gives {
+            println!("- {}: {count} of {} bytes", row.name, row.cells);
+        }
+    }
+}
+
+/// With the word `curve`, the curve alone; with `walk`, the walks; with `mend`, mending.
 fn main() {
     if std::env::args().any(|word| word == "curve") {
         return print_table("The curve alone.", NAMES, &[curve(CURVE)], 0);
@@ -381,6 +432,11 @@ fn main() {
     if std::env::args().any(|word| word == "walk") {
         let walks = walks();
         return TABLES.iter().enumerate().for_each(|(number, (title, _))| print_table(title, WALKS, &walks, number));
+    }
+    if std::env::args().any(|word| word == "mend") {
+        let mends = mends();
+        print_mended(&mends);
+        return TABLES.iter().enumerate().for_each(|(number, (title, _))| print_table(title, NAMES, &mends, number));
     }
     const ALL: usize = 1_000_000;
     const FEW: usize = 64_000;
@@ -428,6 +484,7 @@ fn main() {
         rows.push(at_most(1.5, RUST_LOOP, lookup(&name("rising"), &s, &rising, ALL)));
     }
     rows.push(curve(CURVE));
+    rows.extend(mends());
     let walks = walks();
     println!("{EXPLAINED}");
     for row in &rows {
@@ -441,6 +498,7 @@ fn main() {
             println!("- {}: {count} of {}", row.name, row.cells);
         }
     }
+    print_mended(&rows);
     for (number, (title, _)) in TABLES.iter().enumerate() {
         print_table(title, NAMES, &rows, number);
         print_table("Atoms in scan order, timed in the same way.", WALKS, &walks, number);

@@ -37,6 +37,29 @@ pub fn same<T: PartialEq + Debug>(what: &str, library: &[T], reference: &[T], ca
     }
 }
 
+/// A copy of what is lent to the library for writing, with margins on both sides.
+pub struct Guarded<T>(Vec<T>);
+
+impl<T: Copy + PartialEq + From<u8>> Guarded<T> {
+    pub fn new(before: &[T]) -> Guarded<T> {
+        let margin = [T::from(FILL); MARGIN];
+        Guarded([&margin, before, &margin].concat())
+    }
+
+    pub fn lent(&mut self) -> &mut [T] {
+        let end = self.0.len() - MARGIN;
+        &mut self.0[MARGIN..end]
+    }
+
+    /// What the call left there; fails where it wrote to a margin.
+    pub fn left(&mut self, call: &str, case: Arguments) -> &[T] {
+        let margin = [T::from(FILL); MARGIN];
+        let kept = self.0.starts_with(&margin) && self.0.ends_with(&margin);
+        assert!(kept, "{call}: the library wrote past what it was lent; case: {case}");
+        self.lent()
+    }
+}
+
 /// The cases compared: how often each call gave each answer.
 pub struct Both {
     counts: BTreeMap<&'static str, BTreeMap<u32, u64>>,
@@ -60,14 +83,9 @@ impl Both {
         &mut self, call: &'static str, before: &[T], case: Arguments, library: impl FnOnce(&mut [T]) -> Answer<V>,
         reference: impl FnOnce(&mut [T]) -> Answer<V>,
     ) -> (Option<V>, Vec<T>) {
-        let margin = [T::from(FILL); MARGIN];
-        let mut ours = [&margin, before, &margin].concat();
-        let mut theirs = before.to_vec();
-        let lent = MARGIN..MARGIN + before.len();
-        let value = self.same(call, library(&mut ours[lent.clone()]), reference(&mut theirs), case);
-        same(call, &ours[lent.clone()], &theirs, case);
-        let kept = ours[..lent.start] == margin && ours[lent.end..] == margin;
-        assert!(kept, "{call}: the library wrote past what it was lent; case: {case}");
+        let (mut ours, mut theirs) = (Guarded::new(before), before.to_vec());
+        let value = self.same(call, library(ours.lent()), reference(&mut theirs), case);
+        same(call, ours.left(call, case), &theirs, case);
         (value, theirs)
     }
 

@@ -197,6 +197,21 @@ impl Generator {
         }
     }
 
+    /// Breaks a rule of a valid layout, of 1 to 4 by its index in that order, and none before it.
+    pub fn break_layout(&mut self, rule: usize, layout: &mut Layout) {
+        let odd = self.pick(&[1, 16, 31]);
+        match rule {
+            0 => {
+                let size = self.pick(&[0, 8193, 1 << 31, u32::MAX]);
+                *[&mut layout.width, &mut layout.height, &mut layout.channels][self.index(3)] = size;
+            }
+            1 => layout.precision = self.pick(&PRECISIONS[3..]),
+            2 if self.one_in(2) => layout.line = self.pick(&[layout.line + odd, 32 * layout.width - 32, 0]),
+            2 => layout.surface = self.pick(&[layout.surface + odd, (layout.height - 1) * layout.line + 32 * layout.width - 32]),
+            _ => layout.start += odd,
+        }
+    }
+
     /// A table of any words: those of the layout, damaged once in `odds` times; placed words that are not 0 or 1; owners that no placing takes; regions
     /// inside the cube and outside, empty ones, sums past 32 bits.
     pub fn any_table(&mut self, layout: Layout, odds: u64) -> Table {

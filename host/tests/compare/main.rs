@@ -12,6 +12,7 @@ mod conversion;
 mod lookup;
 mod nan;
 mod packed;
+mod padding;
 mod paint;
 mod regions;
 mod settings;

@@ -3,7 +3,7 @@
 
 use crate::both::{number, same, start, Both};
 use crate::calls::Cube;
-use crate::draw::{buffer_length, element_count, Generator, PRECISIONS};
+use crate::draw::{buffer_length, element_count, Generator};
 use crate::reference::walk::{self, Way};
 use crate::reference::{each, elements};
 use olsketina::{raw, Answer, Atom, Layout, Refusal, Walk};
@@ -232,16 +232,8 @@ const ORDER: [u32; 6] = [1, 2, 3, 4, 6, 5];
 
 /// Breaks a rule of a start, by its index in the order, and none before it; those after it may have been broken before.
 fn break_rule(g: &mut Generator, rule: usize, layout: &mut Layout, elements: &mut Vec<i16>, length: &mut usize) {
-    let odd = g.pick(&[1, 16, 31]);
     match rule {
-        0 => {
-            let size = g.pick(&[0, 8193, 1 << 31, u32::MAX]);
-            *[&mut layout.width, &mut layout.height, &mut layout.channels][g.index(3)] = size;
-        }
-        1 => layout.precision = g.pick(&PRECISIONS[3..]),
-        2 if g.one_in(2) => layout.line = g.pick(&[layout.line + odd, 32 * layout.width - 32, 0]),
-        2 => layout.surface = g.pick(&[layout.surface + odd, (layout.height - 1) * layout.line + 32 * layout.width - 32]),
-        3 => layout.start += odd,
+        0..=3 => g.break_layout(rule, layout),
         4 => elements.resize(g.pick(&[0, elements.len() - 1, elements.len() + 1, 2 * elements.len()]), 0),
         5 => *length = g.pick(&[buffer_length(*layout) - 1, buffer_length(*layout) - 32, 0]),
         _ => {

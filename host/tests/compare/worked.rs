@@ -54,6 +54,41 @@ fn atoms() {
     assert_eq!(Walk::from_words(words).step(&elements).map(|atom| atom.position), Some(u64::MAX - 32));
 }
 
+/// Change request K8: the paper's frame with dirt in its padding, beside it in cells and gaps, and behind it; a 16-bit frame.
+#[test]
+fn padding() {
+    let mend = |words: [u32; 7], [first, length]: [u64; 2], part: &mut [u8]| -> Answer<Vec<(u64, u8)>> {
+        let (mut positions, mut olds) = (vec![0; part.len()], vec![0; part.len()]);
+        let count = Layout::from(words).mend(first, length, part, &mut positions, &mut olds)?;
+        Ok(positions.into_iter().zip(olds).take(count).collect())
+    };
+    // Of the second surface's atoms, at 256, 288, 320 and 384, 416, 448, bytes 8 to 31 are padding; 352 to 383 are a gap.
+    let frame = [3, 2, 40, 0, 128, 256, 0];
+    let dirt = [(31, 1), (96, 2), (263, 3), (264, 4), (287, 5), (288, 6), (351, 7), (352, 8), (383, 9), (456, 10), (479, 11), (480, 12)];
+    let mut file = [0; 500];
+    dirt.into_iter().for_each(|(at, old)| file[at as usize] = old);
+    let report = vec![(264, 4), (287, 5), (351, 7), (456, 10), (479, 11)];
+    let mut mended = file;
+    assert_eq!(mend(frame, [0, 500], &mut mended), Ok(report.clone()));
+    let changed: Vec<(u64, u8)> =
+        (0..).zip(file.into_iter().zip(mended)).filter(|(_, (old, new))| old != new).map(|(at, (old, _))| (at, old)).collect();
+    assert_eq!(changed, report);
+    assert_eq!(mend(frame, [0, 500], &mut mended), Ok(vec![]));
+    assert_eq!(mend(frame, [287, 500], &mut [5, 6]), Ok(vec![(287, 5)]));
+    assert_eq!(mend(frame, [479, 480], &mut [11]), Ok(vec![(479, 11)]));
+    assert_eq!(mend(frame, [0, 500], &mut [0xee; 500]).map(|report| report.len()), Ok(6 * 24));
+    // Channel 16 fills two bytes of the second atom.
+    let all: Vec<(u64, u8)> = (34..64).map(|at| (at, 1)).collect();
+    assert_eq!(mend([1, 1, 17, 1, 32, 32, 0], [0, 64], &mut [1; 64]), Ok(all));
+
+    assert_eq!(mend(frame, [0, 479], &mut [0; 9]), refused(5));
+    assert_eq!(mend(frame, [400, 500], &mut [0; 101]), refused(5));
+    assert_eq!([500, 501].map(|first| mend(frame, [first, 500], &mut [])), [Ok(vec![]), refused(5)]);
+    assert_eq!([0, 1].map(|more| mend(frame, [u64::MAX - 9, u64::MAX], &mut vec![7; 9 + more])), [Ok(vec![]), refused(5)]);
+    let short = |first| Layout::from(frame).mend(first, 500, &mut [1; 9], &mut [0; 9], &mut [0; 8]);
+    assert_eq!([264, 492].map(short), [refused(18), refused(5)]);
+}
+
 /// Change request K7's patterns of fp16: infinities are taken, NaN is refused wherever it is written, and given wherever it is read.
 #[test]
 fn nan() {

@@ -12,10 +12,6 @@ use Rattle.padding_calls.proofs.DoneLaws.{done-all}
 use borrow.Author.Needs.{needs}
 use Rattle.padding_calls.proofs.mend.Statement.{statement}
 use Rattle.padding_calls.proofs.mend.Tie as tie
-use Rattle.padding_calls.proofs.mend.Reads as reads
-use Rattle.padding_calls.proofs.mend.Lts as lts
-use Rattle.padding_calls.proofs.check.Reads as check-reads
-use Rattle.padding_calls.proofs.rows.all.Reads as all-reads
 
 abbrev start : tie.After-enum-told → tie.Start
 start e = e .before .before .before .before .before .before

@@ -55,6 +55,16 @@ impl Cube {
         require(self.start + self.extent() <= bytes as i128, Refusal::BUFFER_LENGTH)
     }
 
+    /// Whether a byte is padding: it lies in an atom, past the bytes of the last channel.
+    pub fn is_padding(&self, position: i128) -> bool {
+        let offset = position - self.start;
+        let [surface, in_surface] = [offset / self.surface, offset % self.surface];
+        let [row, in_line] = [in_surface / self.line, in_surface % self.line];
+        let [column, byte] = [in_line / 32, in_line % 32];
+        let in_atom = offset >= 0 && surface < self.surfaces() && row < self.height && column < self.width;
+        in_atom && 32 * surface + byte >= self.channels * bytes_of(self.precision)
+    }
+
     /// The bytes at which the elements of a box begin, in raw order over the box.
     pub fn positions(self, [c, h, w]: [i128; 3], [channels, rows, columns]: [i128; 3]) -> impl Iterator<Item = usize> {
         (c..c + channels).flat_map(move |c| (h..h + rows).flat_map(move |h| (w..w + columns).map(move |w| self.position(c, h, w))))

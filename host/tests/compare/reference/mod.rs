@@ -17,6 +17,7 @@ pub mod convert;
 pub mod cube;
 pub mod elements;
 pub mod lookup;
+pub mod padding;
 pub mod parlour;
 pub mod pixels;
 pub mod regions;

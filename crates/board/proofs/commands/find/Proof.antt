@@ -5,10 +5,10 @@ use Rattle.board.proofs.commands.find.Statement.{statement}
 use Rattle.board.proofs.commands.find.Tie as tie
 
 abbrev Inv-loop : tie.InvT-loop
-Inv-loop name length row₀ matched₀ i₀ row matched i = i ≤ 844
+Inv-loop name length row₀ matched₀ i₀ row matched i = i ≤ 886
 
 abbrev μ-loop : tie.MeasureT-loop
-μ-loop name length row₀ matched₀ i₀ row matched i = 844 - i
+μ-loop name length row₀ matched₀ i₀ row matched i = 886 - i
 
 loop-holds : tie.Need-loop-holds Inv-loop μ-loop
 loop-holds c = search needs

@@ -11,12 +11,6 @@ use Rattle.padding_calls.specs.Steps.{isPadding, Room, Done}
 use Rattle.padding_calls.proofs.DoneLaws.{done-start}
 use Rattle.padding_calls.proofs.rows.all.Statement.{statement}
 use Rattle.padding_calls.proofs.rows.all.Tie as tie
-use Rattle.padding_calls.proofs.rows.all.Reads as reads
-use Rattle.padding_calls.proofs.rows.all.Lts as lts
-use Rattle.padding_calls.proofs.rows.byte_of.Reads as byte-of-reads
-use Rattle.padding_calls.proofs.rows.stretch.Reads as stretch-reads
-use Rattle.padding_calls.proofs.stretches.elements_end.Reads as elements-end-reads
-use Rattle.padding_calls.proofs.stretches.next.Reads as next-reads
 
 abbrev Inv-loop : tie.InvT-loop
 Inv-loop layout first part₀ positions₀ olds₀ pad i₀ n₀ part positions olds i n =

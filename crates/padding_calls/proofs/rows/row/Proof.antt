@@ -10,11 +10,6 @@ use Rattle.padding_calls.specs.Steps.{Room, Goes}
 use Rattle.padding_calls.proofs.GoesLaws.{goes-none, goes-then, goes-atom}
 use Rattle.padding_calls.proofs.rows.row.Statement.{statement}
 use Rattle.padding_calls.proofs.rows.row.Tie as tie
-use Rattle.padding_calls.proofs.rows.row.Reads as reads
-use Rattle.padding_calls.proofs.rows.row.Lts as lts
-use Rattle.padding_calls.proofs.rows.clear.Reads as clear-reads
-use Rattle.padding_calls.proofs.rows.less.Reads as less-reads
-use Rattle.padding_calls.proofs.rows.onward.Reads as onward-reads
 
 abbrev Inv-loop : tie.InvT-loop
 Inv-loop first from to n pad part₀ positions₀ olds₀ i₀ count₀ part positions olds i count =

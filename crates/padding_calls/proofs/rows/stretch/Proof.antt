@@ -9,9 +9,6 @@ use Rattle.padding_calls.proofs.GoesLaws.{goes-skip}
 use borrow.Author.Needs.{needs}
 use Rattle.padding_calls.proofs.rows.stretch.Statement.{statement}
 use Rattle.padding_calls.proofs.rows.stretch.Tie as tie
-use Rattle.padding_calls.proofs.rows.stretch.Reads as reads
-use Rattle.padding_calls.proofs.rows.stretch.Lts as lts
-use Rattle.padding_calls.proofs.rows.row.Reads as row-reads
 
 row-requires : tie.Need-row-requires
 row-requires c κs = search needs

@@ -11,10 +11,6 @@ use Rattle.padding_calls.proofs.StretchLaws.{before-lt}
 use borrow.Author.Needs.{needs}
 use Rattle.padding_calls.proofs.stretches.elements_end.Statement.{statement}
 use Rattle.padding_calls.proofs.stretches.elements_end.Tie as tie
-use Rattle.padding_calls.proofs.stretches.elements_end.Reads as reads
-use Rattle.padding_calls.proofs.stretches.elements_end.Lts as lts
-use Rattle.elements.proofs.element_bytes.Reads as element-bytes-reads
-use Rattle.padding_calls.proofs.stretches.surfaces_before.Reads as surfaces-before-reads
 
 element-bytes-requires : tie.Need-element-bytes-requires
 element-bytes-requires c κs = search needs

@@ -7,8 +7,6 @@ use Rattle.padding_calls.proofs.StretchLaws.{line-pos, in-row-le, row-f
 use borrow.Author.Needs.{needs}
 use Rattle.padding_calls.proofs.stretches.in_rows.Statement.{statement}
 use Rattle.padding_calls.proofs.stretches.in_rows.Tie as tie
-use Rattle.padding_calls.proofs.stretches.in_rows.Reads as reads
-use Rattle.padding_calls.proofs.stretches.in_rows.Lts as lts
 
 abbrev q : tie.Start → CubeLayout
 q s = s .args .layout

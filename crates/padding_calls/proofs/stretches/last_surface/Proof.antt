@@ -9,9 +9,6 @@ use Rattle.padding_calls.specs.Steps.{lastSurface}
 use borrow.Author.Needs.{needs}
 use Rattle.padding_calls.proofs.stretches.last_surface.Statement.{statement}
 use Rattle.padding_calls.proofs.stretches.last_surface.Tie as tie
-use Rattle.padding_calls.proofs.stretches.last_surface.Reads as reads
-use Rattle.padding_calls.proofs.stretches.last_surface.Lts as lts
-use Rattle.padding_calls.proofs.stretches.surfaces_before.Reads as surfaces-before-reads
 
 cast-result : tie.Need-cast-result
 cast-result c = search needs

@@ -9,10 +9,6 @@ use Rattle.padding_calls.proofs.StretchLaws.{before-last}
 use borrow.Author.Needs.{needs}
 use Rattle.padding_calls.proofs.stretches.next.Statement.{statement}
 use Rattle.padding_calls.proofs.stretches.next.Tie as tie
-use Rattle.padding_calls.proofs.stretches.next.Reads as reads
-use Rattle.padding_calls.proofs.stretches.next.Lts as lts
-use Rattle.padding_calls.proofs.stretches.in_rows.Reads as in-rows-reads
-use Rattle.padding_calls.proofs.stretches.last_surface.Reads as last-surface-reads
 
 last-surface-requires : tie.Need-last-surface-requires
 last-surface-requires c κs = search needs

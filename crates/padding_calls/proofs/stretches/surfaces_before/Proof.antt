@@ -9,9 +9,6 @@ use Rattle.padding_calls.proofs.StretchLaws.{surfaces-before, channels-
 use borrow.Author.Needs.{needs}
 use Rattle.padding_calls.proofs.stretches.surfaces_before.Statement.{statement}
 use Rattle.padding_calls.proofs.stretches.surfaces_before.Tie as tie
-use Rattle.padding_calls.proofs.stretches.surfaces_before.Reads as reads
-use Rattle.padding_calls.proofs.stretches.surfaces_before.Lts as lts
-use Rattle.elements.proofs.element_bytes.Reads as element-bytes-reads
 
 element-bytes-requires : tie.Need-element-bytes-requires
 element-bytes-requires c κs = search needs
