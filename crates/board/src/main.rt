@@ -5,6 +5,7 @@ mod commands;
 mod line;
 mod lists;
 mod lookup;
+mod mended;
 mod mending;
 mod numbers;
 mod paint;
@@ -184,7 +185,7 @@ fn run_lent(state: State, elements: &mut [i16], buffer: &mut [u8], samples: &mut
             state
         }
         58 => {
-            mending::file(line.number, numbers, state.sums, elements, buffer, samples);
+            mended::file(line.number, numbers, state.sums, elements, buffer, samples);
             state
         }
         _ => call(state, elements, buffer, samples),

@@ -31,6 +31,10 @@ two = layoutOf 1 1 33 0 32 64 0
 abbrev full : CubeLayout
 full = layoutOf 1 1 32 0 32 32 0
 
+-- the paper's frame
+abbrev frame : CubeLayout
+frame = layoutOf 3 2 40 0 128 256 0
+
 -- all bytes nine
 abbrev nines : ℕ → List ℕ
 nines n = replicate n 9
@@ -67,6 +71,10 @@ pub record Computed : Type 0 where
   pub surfaces-two : positionsOf (reported two 0 (nines 65)) ≡ []
   pub surface-second : positionsOf (reported two 62 (nines 5)) ≡ 65 ∷ 66 ∷ []
   pub none : reported full 0 (nines 32) ≡ []
+  -- the paper's frame: its first surface is full, line gap and all; in the second the atoms end with 24 bytes of padding, the last one at 479
+  pub paper-first : reported frame 0 (nines 128) ≡ []
+  pub paper-second : mended frame 262 (nines 28) ≡ 9 ∷ 9 ∷ replicate 24 0 ++ 9 ∷ 9 ∷ []
+  pub paper-end : positionsOf (reported frame 478 (nines 4)) ≡ 478 ∷ 479 ∷ []
   -- a call: its answer, what it leaves, the places past the report stay
   pub count : mendCount small 62 192 (loan 6 6 6) ≡ Is 3
   pub left : mendLeft small 62 192 (loan 6 8 7) ≡ lent (0 ∷ 0 ∷ 9 ∷ 9 ∷ 9 ∷ 0 ∷ []) (62 ∷ 63 ∷ 67 ∷ 7 ∷ 7 ∷ 7 ∷ 7 ∷ 7 ∷ []) (9 ∷ 9 ∷ 9 ∷ 8 ∷ 8 ∷ 8 ∷ 8 ∷ [])
@@ -97,6 +105,9 @@ computed =
       surfaces-two = refl;
       surface-second = refl;
       none = refl;
+      paper-first = refl;
+      paper-second = refl;
+      paper-end = refl;
       count = refl;
       left = refl;
       given = refl;

@@ -1,10 +1,10 @@
--- `board::mending::write_back` is safe and ends: the index grows to the number of lines. The loop's invariant: the file keeps its length. Assumes nothing.
+-- `board::mended::write_back` is safe and ends: the index grows to the number of lines. The loop's invariant: the file keeps its length. Assumes nothing.
 use Prim.Native.Nat.{_≤_, _-_}
 use mathlib.Core.Path.{_≡_}
 use lib.ListN.{length}
 use borrow.Author.Needs.{needs}
-use Rattle.board.proofs.mending.write_back.Statement.{statement}
-use Rattle.board.proofs.mending.write_back.Tie as tie
+use Rattle.board.proofs.mended.write_back.Statement.{statement}
+use Rattle.board.proofs.mended.write_back.Tie as tie
 
 abbrev Inv-loop : tie.InvT-loop
 Inv-loop count positions olds file₀ end i₀ file i = (i ≤ end) × (length file ≡ length file₀)

@@ -1,10 +1,10 @@
--- `board::mending::file` is safe: the bytes lent for a copy are no more than there is room for. Assumes nothing.
+-- `board::mended::file` is safe: the bytes lent for a copy are no more than there is room for. Assumes nothing.
 use native.Mathlib.Omega.{arith}
 use mathlib.Core.Path.{sym}
 use lib.Seq.{length-take-le}
 use borrow.Author.Needs.{needs}
-use Rattle.board.proofs.mending.file.Statement.{statement}
-use Rattle.board.proofs.mending.file.Tie as tie
+use Rattle.board.proofs.mended.file.Statement.{statement}
+use Rattle.board.proofs.mended.file.Tie as tie
 
 all-bytes-requires : tie.Need-all-bytes-requires
 all-bytes-requires c κs = search needs

@@ -1,10 +1,10 @@
--- `board::mending::in_parts` is safe and ends: each part is behind the one before it. The loop's invariant: the file and the report's lists keep their lengths. Assumes nothing.
+-- `board::mended::in_parts` is safe and ends: each part is behind the one before it. The loop's invariant: the file and the report's lists keep their lengths. Assumes nothing.
 use Prim.Native.Nat.{_≤_, _-_}
 use mathlib.Core.Path.{_≡_}
 use lib.ListN.{length}
 use borrow.Author.Needs.{needs}
-use Rattle.board.proofs.mending.in_parts.Statement.{statement}
-use Rattle.board.proofs.mending.in_parts.Tie as tie
+use Rattle.board.proofs.mended.in_parts.Statement.{statement}
+use Rattle.board.proofs.mended.in_parts.Tie as tie
 
 abbrev Inv-loop : tie.InvT-loop
 Inv-loop layout size file₀ positions₀ olds₀ m₀ at₀ file positions olds m at = (at ≤ length file₀) × (length file ≡ length file₀) × (length positions ≡ length positions₀) × (length olds ≡ length olds₀)

@@ -1,8 +1,8 @@
--- `board::mending::with_lines` is safe and ends: the index grows to the number of lines. Assumes nothing.
+-- `board::mended::with_lines` is safe and ends: the index grows to the number of lines. Assumes nothing.
 use Prim.Native.Nat.{_≤_, _-_}
 use borrow.Author.Needs.{needs}
-use Rattle.board.proofs.mending.with_lines.Statement.{statement}
-use Rattle.board.proofs.mending.with_lines.Tie as tie
+use Rattle.board.proofs.mended.with_lines.Statement.{statement}
+use Rattle.board.proofs.mended.with_lines.Tie as tie
 
 abbrev Inv-loop : tie.InvT-loop
 Inv-loop before count positions olds end sum₀ i₀ sum i = i ≤ end

@@ -1,10 +1,10 @@
--- `board::mending::copy` is safe and ends: the index grows to the file's length. The loop's invariant: the file keeps its length. Assumes nothing.
+-- `board::mended::copy` is safe and ends: the index grows to the file's length. The loop's invariant: the file keeps its length. Assumes nothing.
 use Prim.Native.Nat.{_≤_, _-_}
 use mathlib.Core.Path.{_≡_}
 use lib.ListN.{length}
 use borrow.Author.Needs.{needs}
-use Rattle.board.proofs.mending.copy.Statement.{statement}
-use Rattle.board.proofs.mending.copy.Tie as tie
+use Rattle.board.proofs.mended.copy.Statement.{statement}
+use Rattle.board.proofs.mended.copy.Tie as tie
 
 abbrev Inv-loop : tie.InvT-loop
 Inv-loop from to₀ i₀ to i = (i ≤ length to₀) × (length to ≡ length to₀)
