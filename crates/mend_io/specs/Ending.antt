@@ -22,14 +22,14 @@ pub record Alone (n : ℕ) (e : Ended) : Type 0 where
   pub code : e .code ≡ n
   pub sum : e .sum ≡ checksum 0 (numberText n)
 
--- the file was read twice with one length; what was printed is the text of its whole report
+-- what was printed is the text of the whole report of some bytes, as many as the length read; that they are the file's, nothing ties them to
 pub record Whole (q : CubeLayout) (e : Ended) : Type 0 where
   pub file : List ℕ
   pub all : length file ≡ e .length
   pub code : e .code ≡ 0
   pub sum : e .sum ≡ checksum 0 (output q file)
 
--- a read or a write failed: of what had been read then, some lines of the report, from the first on, and 24 were printed; how many lines is free
+-- a read or a write failed: of some bytes, of any length, some lines of the report, from the first on, and 24 were printed; how many lines is free
 pub record BrokenOff (q : CubeLayout) (e : Ended) : Type 0 where
   pub file : List ℕ
   pub shown : ℕ

@@ -13,7 +13,7 @@ use Rattle.mend_text.proofs.LongLaws as input
 use Rattle.mend_text.proofs.TextLaws as text
 use Rattle.mend_text.proofs.GatherLaws as gather
 
--- however a file is cut into parts, the header and the lines for each part are the text for the whole file, if it is accepted as a whole
+-- however a file is cut into parts, the header and the lines for each part are the text for the whole file, if it is accepted as a whole; that calls of `gather` give the lines of a part is `gathered-joined`
 pub however-cut : (q : CubeLayout) (len : ℕ) (ls : List Lent) (positions olds : List ℕ) → AllRoomy ls → mendAnswer q 0 len (lent (fileBytes ls) positions olds) ≡ Accepted
     → header ++ partsText q 0 len ls ≡ output q (fileBytes ls)
 however-cut = text.output-cut

@@ -168,7 +168,6 @@ abbrev dirt : ℕ → ℕ → Dirt
 dirt position old = record { position = position; old = old }
 
 -- position 264, old value 7; position 0, old value 255
--- position 0, old value 255; position 264, old value 7; position 5, old value 1
 pub record Lines : Type 0 where
   pub line : dirtText (dirt 264 7) ≡ 50 ∷ 54 ∷ 52 ∷ 9 ∷ 55 ∷ 10 ∷ []
   pub both : reportText (dirt 0 255 ∷ dirt 264 7 ∷ []) ≡ 48 ∷ 9 ∷ 50 ∷ 53 ∷ 53 ∷ 10 ∷ 50 ∷ 54 ∷ 52 ∷ 9 ∷ 55 ∷ 10 ∷ []
@@ -222,14 +221,15 @@ pub few : Few
 unfolding leadingIn digits dirtText reportText flatten lines fitting gathered
 few = record { none = refl; no-room = refl; no-lines = refl; in-order = refl; fewer-olds = refl; fewer-positions = refl }
 
-pub record Left : Type 0 where
-  -- places past the lines that fit stay
-  pub one : gatherText positions olds (replicate 8 1) ≡ 48 ∷ 9 ∷ 50 ∷ 53 ∷ 53 ∷ 10 ∷ 1 ∷ 1 ∷ []
-  pub none : gatherText positions olds (replicate 5 1) ≡ 1 ∷ 1 ∷ 1 ∷ 1 ∷ 1 ∷ []
-
-pub whole-lines : Left
+-- places past the lines that fit stay
+pub stays : gatherText positions olds (replicate 8 1) ≡ 48 ∷ 9 ∷ 50 ∷ 53 ∷ 53 ∷ 10 ∷ 1 ∷ 1 ∷ []
 unfolding leadingIn digits dirtText reportText flatten lines filled fitting gatherText
-whole-lines = record { one = refl; none = refl }
+stays = refl
+
+-- no line fits whole: all stay
+pub whole-lines : gatherText positions olds (replicate 5 1) ≡ 1 ∷ 1 ∷ 1 ∷ 1 ∷ 1 ∷ []
+unfolding leadingIn digits dirtText reportText flatten lines filled fitting gatherText
+whole-lines = refl
 
 pub record Joined : Type 0 where
   pub one-call : allGathered 1 positions olds (replicate 8 1) ≡ 48 ∷ 9 ∷ 50 ∷ 53 ∷ 53 ∷ 10 ∷ []

@@ -1,4 +1,4 @@
--- Laws of the definitions of specs/; TextLaws and GatherLaws serve the crates above too.
+-- Laws of the definitions of specs/; TextLaws, FitLaws and GatherLaws serve the crates above too.
 --     NameLaws     what makes a line a name, and what names behind a record ask for
 --     InputLaws    the lines of an input, and what they ask for
 --     LongLaws     a readable input is short

@@ -1,20 +1,19 @@
 -- What a call of mending answers and leaves (specs/Calls.antt), refused or accepted, and the report that it gives. By cases on its answer. Assumes nothing.
---     answer-refused, count-refused, left-refused         a refused call
+--     count-refused, left-refused                         a refused call
 --     count-accepted, left-accepted, part-accepted        an accepted call
 --     given-reported                                      its report
 use Prim.Native.Nat.{ℕ}
-use mathlib.Core.Path.{_≡_, refl, sym, ap, _∙_}
-use mathlib.Core.List.{List, [], _∷_, _++_, map}
+use mathlib.Core.Path.{_≡_, refl, ap}
+use mathlib.Core.List.{List, [], _∷_, map}
 use lib.ListN.{length, take, drop, length-map}
 use lib.Seq.{take-at}
 use Rattle.refusal.specs.declared.Refusal.{Refusal}
 use Rattle.refusal.specs.declared.Answer.the-variants.{Accepted, Refused}
 use Rattle.refusal.specs.declared.Quantity.the-variants.{Is, Refused as NotGiven}
-use Rattle.refusal.specs.Checks.{inOrder}
 use Rattle.refusal.proofs.CheckLaws.{leaves-done, leaves-before, result-given, result-refused}
 use Rattle.layout.specs.declared.CubeLayout.{CubeLayout}
 use Rattle.padding.specs.Mending.{Dirt, mended, reported}
-use Rattle.padding.specs.Calls.{Lent, lent, mendAnswer, mendCount, filled, mendedLists, mendLeft}
+use Rattle.padding.specs.Calls.{Lent, mendAnswer, mendCount, filled, mendedLists, mendLeft}
 use Rattle.padding.specs.Files.{lines, firstLines, reportGiven}
 
 -- a report's two columns, side by side
@@ -31,7 +30,7 @@ module _ (q : CubeLayout) (first len : ℕ) (l : Lent) where
   module _ (r : Refusal) (at : ℕ) (no : mendAnswer q first len l ≡ Refused r at) where
     pub count-refused : mendCount q first len l ≡ NotGiven r at
     unfolding mendCount
-    count-refused = result-refused _ _ (length (reported q first (l .part))) no
+    count-refused = result-refused _ _ _ no
 
     pub left-refused : mendLeft q first len l ≡ l
     unfolding mendLeft

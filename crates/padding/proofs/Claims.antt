@@ -4,7 +4,7 @@
 -- them and their reports, joined, are those of the whole. A packed buffer has nothing to mend, and unpacking gives the same before and after. The words are those of specs/Files.antt and
 -- of layout/specs/Places.antt. Once over the three precisions. Assumes nothing.
 use Prim.Native.Nat.{ℕ, _+_, _<_}
-use mathlib.Core.Path.{_≡_, sym, ap, _∙_}
+use mathlib.Core.Path.{_≡_}
 use mathlib.Core.Logic.{_↔_}
 use mathlib.Core.List.{List}
 use lib.ListN.{length, getD}

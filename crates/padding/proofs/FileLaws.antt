@@ -1,26 +1,24 @@
 -- A file mended part by part, mended again, and restored (specs/Files.antt). By induction on the parts, and on the bytes. Assumes nothing.
 --     accepted-part              a part of an accepted whole, with room for its report, is accepted
 --     parts-accepted, parts-left, parts-report     part by part is the whole
---     mended-twice, reported-none, written-back    mended bytes again; old values written back
---     clean-bytes                bytes of which none is reported
-use Prim.Native.Nat.{ℕ, zero, suc, _+_, _-_, _≤_, _<_}
+--     clean-call                 a call on bytes of which none is reported
+--     written-back               old values written back
+use Prim.Native.Nat.{ℕ, suc, _+_, _-_, _≤_}
 use native.Mathlib.Omega.{arith}
-use mathlib.Core.Path.{_≡_, refl, sym, ap, subst, _∙_}
+use mathlib.Core.Path.{_≡_, refl, sym, ap, _∙_}
 use mathlib.Core.Bool.{Bool, true, false, cond}
-use mathlib.Core.List.{List, [], _∷_, _++_, map, flatten}
-use lib.ListN.{length, getD, set, length-append, length-map}
+use mathlib.Core.List.{List, [], _∷_, _++_, flatten}
+use lib.ListN.{length, set, length-append}
 use lib.Seq.{set-append-seam, append-snoc}
-use Rattle.elements.specs.Lists.{remadeFrom}
 use Rattle.refusal.specs.declared.Answer.the-variants.{Accepted}
 use Rattle.refusal.specs.declared.Quantity.the-variants.{Is}
-use Rattle.refusal.specs.Checks.{inOrder}
 use Rattle.layout.specs.declared.CubeLayout.{CubeLayout}
-use Rattle.layout.specs.Owners.{Owner, element, padding, outside, owner}
+use Rattle.layout.specs.Owners.{owner}
 use Rattle.padding.specs.Mending.{Dirt, mendedByte, mended, isDirty, reported}
-use Rattle.padding.specs.Calls.{Lent, lent, mendAnswer, mendCount, mendLeft, mendedLists, filled}
-use Rattle.padding.specs.Files.{reportGiven, Roomy, fileBytes, fileLeft, fileReport, AllRoomy, AllAccepted, writtenBack}
-use Rattle.padding.proofs.MendLaws.{mended-none, mended-cons, mended-append, reported-none, reported-append, clean-kept, dirt-zero, Clean, clean-reported, clean-mended}
-use Rattle.padding.proofs.CheckLaws.{Mendable, mendable, mend-accepted}
+use Rattle.padding.specs.Calls.{Lent, mendAnswer, mendCount, mendLeft, mendedLists, filled}
+use Rattle.padding.specs.Files.{Roomy, fileBytes, fileLeft, fileReport, AllRoomy, AllAccepted, writtenBack}
+use Rattle.padding.proofs.MendLaws.{mended-none, mended-cons, mended-append, reported-none, reported-append, clean-kept, Clean, clean-reported, clean-mended}
+use Rattle.padding.proofs.CheckLaws.{mendable, mend-accepted}
 use Rattle.padding.proofs.CallLaws.{count-accepted, left-accepted, part-accepted, given-reported}
 
 module _ (q : CubeLayout) (len : ℕ) where

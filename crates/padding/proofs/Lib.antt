@@ -1,4 +1,4 @@
--- Laws of the definitions of specs/; the first three serve the crates above too.
+-- Laws of the definitions of specs/; the first three, and the claim `part-by-part`, serve the crates above too.
 --     MendLaws       mended bytes and their report
 --     CheckLaws      the checks of a call
 --     CallLaws       what a call answers and leaves, refused or accepted

@@ -1,10 +1,12 @@
 -- Laws of mended bytes and of their report (specs/Mending.antt). By induction on the bytes. Assumes nothing.
 --     mended-length, mended-byte             as many bytes; each by its owner
+--     mended-none, mended-cons, reported-none     of no byte; of one before others
 --     mended-append, reported-append         of two runs of bytes, one behind the other
 --     mended-one, reported-clean, reported-dirt     of a single byte
+--     reported-le                            at most a line for each byte
 --     clean-kept, dirt-zero                  a byte that is not reported stays; one that is becomes zero
 --     Clean, clean-reported, clean-mended, mended-clean     bytes of which none is reported
-use Prim.Native.Nat.{ℕ, zero, suc, _+_, _≤_, _<_, suc-le-suc}
+use Prim.Native.Nat.{ℕ, suc, _+_, _≤_, _<_, suc-le-suc}
 use native.Mathlib.Omega.{arith}
 use mathlib.Core.Path.{_≡_, refl, sym, ap, subst, _∙_}
 use mathlib.Core.Bool.{Bool, true, false, cond, not}

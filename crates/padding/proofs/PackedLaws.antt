@@ -1,17 +1,16 @@
 -- A packed buffer has nothing to mend; reading gives the same before and after (demand 2). By the owner of each byte. Assumes nothing.
 --     packed-clean      no byte of a packed buffer is reported
 --     unpacked-same     the raw tensor that is read
+--     read-same, answer-same     what unpacking leaves and answers
 use Prim.Native.Nat.{ℕ, _+_, _<_}
 use native.Mathlib.Omega.{arith}
 use mathlib.Core.Path.{_≡_, refl, sym, ap, subst, _∙_}
-use mathlib.Core.Bool.{Bool, true, false, not}
+use mathlib.Core.Bool.{true, false, not}
 use mathlib.Core.List.{List}
 use lib.Dec.{eqb}
 use lib.ListN.{length, getD}
 use lib.IntN.{ℤ}
-use Rattle.refusal.specs.declared.Answer.{Answer}
-use Rattle.refusal.specs.declared.Answer.the-variants.{Accepted, Refused}
-use Rattle.refusal.specs.Checks.{leaves}
+use Rattle.refusal.specs.declared.Answer.the-variants.{Accepted}
 use Rattle.refusal.proofs.CheckLaws.{leaves-done}
 use Rattle.layout.specs.declared.CubeLayout.{CubeLayout}
 use Rattle.layout.specs.Geometry.{sizeOf, elementPosition}

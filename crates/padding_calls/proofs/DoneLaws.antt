@@ -1,16 +1,15 @@
 -- A part whose first bytes are mended, one byte further (specs/Steps.antt). By the laws of appended bytes and of a store at the seam. Assumes nothing.
 --     done-start, done-all                  no byte, and all bytes
 --     done-clean, done-dirt, done-skip      one byte that stays, one that is reported, several that are no padding
---     goes-none, goes-then, goes-clean, goes-dirt, goes-atom, goes-skip     the same, of the lists before and after steps
-use Prim.Native.Nat.{ℕ, zero, suc, _+_, _-_, _%_, _≤_, _<_, min}
+--     zero-clean, padding-dirty             whether a byte is reported
+use Prim.Native.Nat.{ℕ, zero, suc, _+_, _-_, _≤_, _<_}
 use native.Mathlib.Omega.{arith}
 use mathlib.Core.Path.{_≡_, refl, sym, ap, subst, _∙_}
-use mathlib.Core.Bool.{Bool, true, false, _&&_}
+use mathlib.Core.Bool.{true, false}
 use mathlib.Core.List.{List, [], _∷_, _++_, map, map-append, append-nil}
 use mathlib.Core.Logic.{_≢_}
-use lib.Dec.{leb}
 use borrow.Author.Tests.{ne-eqb}
-use lib.ListN.{length, getD, set, take, drop, length-append, length-set, length-drop, length-map}
+use lib.ListN.{length, getD, set, take, drop, length-append, length-map}
 use lib.Seq.{length-take-le, take-suc, drop-cons, append-snoc, set-at, getD-at, take-length, drop-length, set-append-seam}
 use Rattle.elements.specs.Lists.{remadeFrom}
 use Rattle.layout.specs.declared.CubeLayout.{CubeLayout}
@@ -18,7 +17,7 @@ use Rattle.layout.specs.Owners.{Owner, element, padding, outside, owner}
 use Rattle.padding.specs.Mending.{Dirt, mendedByte, mended, isDirty, reported}
 use Rattle.padding.specs.Calls.{Lent, filled}
 use Rattle.padding.proofs.MendLaws.{mended-length, mended-append, mended-one, reported-append, reported-clean, reported-dirt, clean-kept, dirt-zero}
-use Rattle.padding_calls.specs.Steps.{isPadding, Room, Done, Goes}
+use Rattle.padding_calls.specs.Steps.{isPadding, Done}
 
 -- one place more
 filled-more : (given : List ℕ) (v : ℕ) (before : List ℕ) → length given < length before → filled (given ++ v ∷ []) before ≡ set (filled given before) (length given) v
@@ -29,10 +28,6 @@ filled-more given v before h =
     ∙ append-snoc given v (drop (suc (length given)) before)
     ∙ sym (set-append-seam given (getD before (length given) 0) (drop (suc (length given)) before) v)
     ∙ sym (ap (λ (l : List ℕ). set (given ++ l) (length given) v) (drop-cons before (length given) 0 h))
-
-filled-none : (before : List ℕ) → filled [] before ≡ before
-unfolding filled
-filled-none before = refl
 
 -- a byte that is no padding is not reported, nor is a zero; padding that is not zero is
 not-dirty : (o : Owner) (b : ℕ) → isPadding o ≡ false → isDirty o b ≡ false

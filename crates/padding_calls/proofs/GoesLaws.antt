@@ -3,7 +3,7 @@
 --     zeros-none, zeros-more, zeros-less  bytes that are zero
 --     goes-none, goes-then                no step; steps one after another
 --     goes-zero, goes-dirt, goes-zeros    one byte of padding: zero, or not; zeros
---     goes-skip, goes-atom, goes-atoms    bytes that are no padding; an atom's bytes; atoms, as a stretch
+--     goes-skip, goes-atom                bytes that are no padding; an atom's bytes
 use Prim.Native.Nat.{ℕ, zero, suc, _+_, _-_, _%_, _≤_, _<_, min}
 use native.Mathlib.Nat.{not-suc-le-zero}
 use native.Mathlib.Decide.{decLt}
@@ -15,11 +15,10 @@ use mathlib.Core.List.{List, map}
 use lib.Dec.{leb}
 use lib.ListN.{length, getD, set, take, drop, length-append, length-set, length-drop, length-map}
 use borrow.Author.Tests.{le-leb, lt-leb}
-use Rattle.layout.specs.declared.CubeLayout.{CubeLayout}
 use Rattle.layout.specs.Owners.{owner}
 use Rattle.padding.specs.Mending.{Dirt, isDirty, reported}
-use Rattle.padding.specs.Calls.{Lent, filled}
-use Rattle.padding_calls.specs.Steps.{isPadding, Zeros, Done, Goes}
+use Rattle.padding.specs.Calls.{filled}
+use Rattle.padding_calls.specs.Steps.{Zeros, Done, Goes}
 use Rattle.padding_calls.proofs.DoneLaws.{zero-clean, padding-dirty, done-clean, done-byte, done-dirt, done-skip}
 
 -- ---- zeros
@@ -163,8 +162,3 @@ module _ (first : ℕ) (part positions olds : List ℕ) where
       (goes-skip (λ (x : ℕ). leb pad (x % 32)) first part positions olds i start n (omega (arith, h, e, s)) (omega (arith, ht, e, s)) hn
       (λ x hx hs. lt-leb pad ((first + x) % 32) (omega (arith, hx, hs, e, s))))
       (goes-pads pad start end n r part′ positions′ olds′ (λ x hx he. le-leb pad ((first + x) % 32) (omega (arith, hx, he, h, e, s))) g)
-
-  -- a stretch of atoms
-  pub goes-atoms : (pad i j n r : ℕ) (part′ positions′ olds′ : List ℕ) → Goes (λ (x : ℕ). leb pad (x % 32)) first i j n r part positions olds part′ positions′ olds′
-      → Goes (λ (x : ℕ). true && leb pad (x % 32)) first i j n r part positions olds part′ positions′ olds′
-  goes-atoms pad i j n r part′ positions′ olds′ g = g

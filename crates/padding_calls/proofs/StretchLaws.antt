@@ -1,13 +1,13 @@
 -- Where padding lies (specs/Steps.antt): only in the last surface, since the channels' bytes end in its atoms; a row of it is left behind, is under way, or its gap is.
 -- By the paper's formula, whose rows are told apart by division. Assumes nothing.
---     surfaces-before, elementsEnd-le       the surfaces before the last one
+--     channels-pos, surfaces-before, before-lt     the surfaces before the last one
 --     before-last, past-rows, in-atoms, in-gap     the four kinds of stretch
 use Prim.Native.Nat.{ℕ, suc, _+_, _-_, _*_, _/_, _%_, _^_, _≤_, _<_}
 use native.Mathlib.Nat.{mul-le-mul, mul-le-mul-right, div-add-mod', mod-lt}
 use native.Mathlib.Decide.{decLe}
 use native.Mathlib.Omega.{arith}
 use mathlib.Core.Path.{_≡_, refl, sym, ap, _∙_}
-use mathlib.Core.Bool.{Bool, true, false, _&&_}
+use mathlib.Core.Bool.{true, false}
 use lib.Arith.{digits-div}
 use lib.Dec.{leb}
 use borrow.Author.Tests.{le-leb, lt-leb}
@@ -19,7 +19,6 @@ use Rattle.layout.specs.Places.{PaddingByte}
 use Rattle.layout.proofs.Valid.{Valid}
 use Rattle.layout.proofs.Extents.{surfaces-le}
 use Rattle.layout.proofs.Formulas.{padding-exactly}
-use Rattle.padding_calls.specs.declared.stretches.Stretch.{Stretch}
 use Rattle.padding_calls.specs.Steps.{isPadding, lastSurface, elementsEnd, IsStretch}
 
 -- a multiple of 32, so many times

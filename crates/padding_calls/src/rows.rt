@@ -1,6 +1,6 @@
 // The bytes of a part, one stretch after another.
 ghost use mathlib.Core.Path.{_≡_};
-ghost use mathlib.Core.Bool.{Bool, true, _&&_};
+ghost use mathlib.Core.Bool.{true, _&&_};
 ghost use Prim.Native.Nat.{ℕ, _+_, _-_, _%_, _≤_, min};
 ghost use lib.Dec.{leb};
 ghost use lib.ListN.{length};
@@ -36,7 +36,7 @@ fn byte_of(position: u64, first: u64, end: usize) -> usize
     if (end as u64) < n { end } else { n as usize }
 }
 
-// Whether bytes of the part are all zero: by one pass to their end, which needs no test on the way.
+// Whether bytes of the part are all zero: by one pass that never leaves early.
 fn all_zero(from: usize, to: usize, part: &[u8]) -> bool
     requires { ⌜ to ≤ length (now part) ⌝ }
     ensures { λ r. ⌜ (r ≡ true → Zeros from to (now (part .entry))) ⌝ }

@@ -1,6 +1,6 @@
 // Where padding lies: in the rows of the last surface, behind the elements of each atom.
 ghost use mathlib.Core.Path.{_≡_};
-ghost use Prim.Native.Nat.{_-_, _≤_, _<_, _^_};
+ghost use Prim.Native.Nat.{_-_, _≤_, _<_};
 ghost use Rattle.refusal.specs.declared.Answer.the-variants.{Accepted};
 ghost use Rattle.refusal.specs.Checks.{inOrder};
 ghost use Rattle.layout.specs.Geometry.{surfaces};

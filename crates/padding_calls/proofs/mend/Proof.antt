@@ -7,7 +7,6 @@ use Rattle.refusal.specs.declared.Quantity.the-variants.{Is}
 use Rattle.padding.specs.Calls.{Lent, lent, mendAnswer, mendedLists}
 use Rattle.padding.proofs.CheckLaws.{Mendable, mendable}
 use Rattle.padding.proofs.CallLaws.{count-refused, left-refused, count-accepted, left-accepted}
-use Rattle.padding_calls.specs.Steps.{Room}
 use Rattle.padding_calls.proofs.DoneLaws.{done-all}
 use borrow.Author.Needs.{needs}
 use Rattle.padding_calls.proofs.mend.Statement.{statement}

@@ -1,5 +1,5 @@
 -- `olsketina::mend_calls::olsketina_padding_mend` meets its contract: it hands on what `padding_calls::mend` answers. Assumes nothing.
-use mathlib.Core.Path.{_≡_, ap, subst, _∙_}
+use mathlib.Core.Path.{ap, subst, _∙_}
 use borrow.Author.Needs.{needs}
 use Rattle.refusal.specs.declared.Quantity.{Quantity}
 use Rattle.layout.specs.declared.CubeLayout.{CubeLayout}

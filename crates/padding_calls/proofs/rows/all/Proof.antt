@@ -1,5 +1,5 @@
 -- `padding_calls::rows::all` meets its contract: what stands before the loop's byte is mended; each turn ends a stretch, or the part. Assumes nothing.
-use Prim.Native.Nat.{ℕ, _+_, _-_, _%_, _^_, _≤_, _<_, min}
+use Prim.Native.Nat.{ℕ, _+_, _-_, _%_, _^_, _≤_, _<_}
 use native.Mathlib.Omega.{arith}
 use mathlib.Core.Path.{_≡_, refl, sym, ap, subst, _∙_}
 use mathlib.Core.Bool.{_&&_}
@@ -7,7 +7,7 @@ use lib.Dec.{leb}
 use lib.ListN.{length}
 use Rattle.layout.specs.Owners.{owner}
 use Rattle.padding.specs.Calls.{lent}
-use Rattle.padding_calls.specs.Steps.{isPadding, Room, Done}
+use Rattle.padding_calls.specs.Steps.{isPadding, Done}
 use Rattle.padding_calls.proofs.DoneLaws.{done-start}
 use Rattle.padding_calls.proofs.rows.all.Statement.{statement}
 use Rattle.padding_calls.proofs.rows.all.Tie as tie

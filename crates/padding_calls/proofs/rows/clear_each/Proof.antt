@@ -1,5 +1,6 @@
+-- `padding_calls::rows::clear_each` meets its contract: the bytes before the loop's are mended; each turn takes one, zero or not. Assumes nothing.
 use borrow.Author.Needs.{needs}
-use Prim.Native.Nat.{ℕ, suc, _+_, _-_, _^_, _≤_, _<_}
+use Prim.Native.Nat.{ℕ, _+_, _-_, _^_, _≤_, _<_}
 use native.Mathlib.Omega.{arith}
 use mathlib.Core.Path.{_≡_, subst}
 use mathlib.Core.Logic.{⊎-elim}
@@ -33,47 +34,36 @@ room c =
       g .positions-length,
     )
 
--- src/rows.rt:54:5
 loop-holds : tie.Need-loop-holds Inv-loop μ-loop
 loop-holds c = let r = c .pre in (omega arith, r .from-le, goes-none (λ (x : ℕ). true) (c .args .first) (c .args .part .now) (c .args .positions .now) (c .args .olds .now) (c .args .from) (c .args .n) (r .count-le))
 
--- src/rows.rt:55:17
 slice-read-b : tie.Need-slice-read-b Inv-loop μ-loop
 slice-read-b c = room (c .before) .0
 
--- src/rows.rt:57:32
 add-positions : tie.Need-add-positions Inv-loop μ-loop
 add-positions c = record { fits = omega (arith, room (c .before .before) .4) }
 
--- src/rows.rt:57:13
 mul-positions : tie.Need-mul-positions Inv-loop μ-loop
 mul-positions c = let r = room (c .before .before) in record { fits = omega (arith, r .2, r .5, c .before .before .before .before .good) }
 
--- src/rows.rt:57:13
 slice-write-positions : tie.Need-slice-write-positions Inv-loop μ-loop
 slice-write-positions c = room (c .before .before) .2
 
--- src/rows.rt:58:13
 slice-write-olds : tie.Need-slice-write-olds Inv-loop μ-loop
 slice-write-olds c = room (c .before .before) .3
 
--- src/rows.rt:59:13
 slice-write-part : tie.Need-slice-write-part Inv-loop μ-loop
 slice-write-part c = room (c .before .before) .0
 
--- src/rows.rt:60:13
 add-count : tie.Need-add-count Inv-loop μ-loop
 add-count c = let r = room (c .before .before) in record { fits = omega (arith, r .1, r .4) }
 
--- src/rows.rt:62:9
 add-i : tie.Need-add-i Inv-loop μ-loop
 add-i c = record { fits = omega (arith, room (c .before .before) .4) }
 
--- src/rows.rt:54:5
 loop-less : tie.Need-loop-less Inv-loop μ-loop
 loop-less c = omega (arith, c .before .before .loop-test .taken)
 
--- src/rows.rt:54:5
 loop-again : tie.Need-loop-again Inv-loop μ-loop
 loop-again c =
     let l = c .before .before .before .loop in
@@ -88,19 +78,15 @@ loop-again c =
           (c .if1 .came),
     )
 
--- src/rows.rt:40:1
 same-length : tie.Need-same-length Inv-loop μ-loop
 same-length c = c .before .loop .inv .2 .part-length
 
--- src/rows.rt:40:1
 same-length-2 : tie.Need-same-length-2 Inv-loop μ-loop
 same-length-2 c = c .before .loop .inv .2 .positions-length
 
--- src/rows.rt:40:1
 same-length-3 : tie.Need-same-length-3 Inv-loop μ-loop
 same-length-3 c = c .before .loop .inv .2 .olds-length
 
--- src/rows.rt:40:1
 returns : tie.Need-returns Inv-loop μ-loop
 returns c = let a = c .before .before .args in
     subst (λ (k : ℕ). Goes (λ (x : ℕ). true) (a .first) (a .from) k (a .n) (c .before .loop .count) (a .part .now) (a .positions .now) (a .olds .now) (c .before .loop .part) (c .before .loop .positions) (c .before .loop .olds))

@@ -2,11 +2,10 @@
 use Prim.Native.Nat.{ℕ, _+_, _-_, _%_, _^_, _≤_, _<_, min}
 use native.Mathlib.Omega.{arith}
 use borrow.Author.Needs.{needs}
-use mathlib.Core.Path.{_≡_, sym, ap, subst, _∙_}
-use mathlib.Core.Bool.{true}
+use mathlib.Core.Path.{ap, subst, _∙_}
 use lib.Dec.{leb}
 use lib.ListN.{length}
-use Rattle.padding_calls.specs.Steps.{Room, Goes}
+use Rattle.padding_calls.specs.Steps.{Goes}
 use Rattle.padding_calls.proofs.GoesLaws.{goes-none, goes-then, goes-atom}
 use Rattle.padding_calls.proofs.rows.row.Statement.{statement}
 use Rattle.padding_calls.proofs.rows.row.Tie as tie

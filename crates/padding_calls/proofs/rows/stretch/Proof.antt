@@ -1,8 +1,7 @@
 -- `padding_calls::rows::stretch` meets its contract: bytes of atoms are a row's; where there are none nothing is padding. Assumes nothing.
 use Prim.Native.Nat.{ℕ, _%_}
-use native.Mathlib.Omega.{arith}
-use mathlib.Core.Path.{_≡_, refl, subst⁻¹}
-use mathlib.Core.Bool.{Bool, true, false, _&&_}
+use mathlib.Core.Path.{refl, subst⁻¹}
+use mathlib.Core.Bool.{Bool, false, _&&_}
 use lib.Dec.{leb}
 use Rattle.padding_calls.specs.Steps.{Goes}
 use Rattle.padding_calls.proofs.GoesLaws.{goes-skip}

@@ -1,10 +1,9 @@
 -- `padding_calls::stretches::elements_end` meets its contract: the surfaces before the last one have fewer bytes than the channels. Assumes nothing.
-use Prim.Native.Nat.{ℕ, _+_, _-_, _*_, _≤_}
+use Prim.Native.Nat.{ℕ, _-_, _*_, _≤_}
 use native.Mathlib.Nat.{mul-le-mul}
 use native.Mathlib.Omega.{arith}
-use mathlib.Core.Path.{_≡_, ap, _∙_}
+use mathlib.Core.Path.{ap}
 use Rattle.elements.proofs.ByteLaws.{elementBytes-le}
-use Rattle.layout.specs.Geometry.{sizeOf}
 use Rattle.layout.proofs.Valid.{valid}
 use Rattle.padding_calls.specs.Steps.{elementsEnd}
 use Rattle.padding_calls.proofs.StretchLaws.{before-lt}

@@ -1,7 +1,6 @@
 -- `padding_calls::stretches::next` meets its contract: before the last surface there is no padding. Assumes nothing.
 use Prim.Native.Nat.{ℕ, _<_}
-use native.Mathlib.Omega.{arith}
-use mathlib.Core.Path.{_≡_, sym, subst, subst⁻¹}
+use mathlib.Core.Path.{subst, subst⁻¹}
 use mathlib.Core.Bool.{false}
 use Rattle.layout.proofs.Valid.{valid}
 use Rattle.padding_calls.specs.Steps.{IsStretch}
