@@ -75,6 +75,8 @@ pub record Computed : Type 0 where
   pub paper-first : reported frame 0 (nines 128) ≡ []
   pub paper-second : mended frame 262 (nines 28) ≡ 9 ∷ 9 ∷ replicate 24 0 ++ 9 ∷ 9 ∷ []
   pub paper-end : positionsOf (reported frame 478 (nines 4)) ≡ 478 ∷ 479 ∷ []
+  -- and its answers: a file of 480 bytes is taken, 479 is 5; surface 224 is taken, 192 is 3
+  pub paper-answers : code frame 0 480 (loan 2 2 2) ∷ code frame 0 479 (loan 2 2 2) ∷ code (layoutOf 3 2 40 0 128 224 0) 0 480 (loan 2 2 2) ∷ code (layoutOf 3 2 40 0 128 192 0) 0 480 (loan 2 2 2) ∷ [] ≡ 0 ∷ 5 ∷ 0 ∷ 3 ∷ []
   -- a call: its answer, what it leaves, the places past the report stay
   pub count : mendCount small 62 192 (loan 6 6 6) ≡ Is 3
   pub left : mendLeft small 62 192 (loan 6 8 7) ≡ lent (0 ∷ 0 ∷ 9 ∷ 9 ∷ 9 ∷ 0 ∷ []) (62 ∷ 63 ∷ 67 ∷ 7 ∷ 7 ∷ 7 ∷ 7 ∷ 7 ∷ []) (9 ∷ 9 ∷ 9 ∷ 8 ∷ 8 ∷ 8 ∷ 8 ∷ [])
@@ -108,6 +110,7 @@ computed =
       paper-first = refl;
       paper-second = refl;
       paper-end = refl;
+      paper-answers = refl;
       count = refl;
       left = refl;
       given = refl;
