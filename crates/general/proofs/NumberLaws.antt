@@ -67,13 +67,13 @@ abbrev pub held : ℤ → ℤ
 held z = to_z w64 (of_z w64 z)
 
 pub back16 : (z : ℤ) → mag z < 32768 → to_z w16 (of_z w16 z) ≡ z
-back16 z m = to_z-of_z (record { sfits = m })
+back16 z m = to_z-of_z {w = w16} (record { sfits = m })
 
 pub back32 : (z : ℤ) → mag z < 2147483648 → to_z w32 (of_z w32 z) ≡ z
-back32 z m = to_z-of_z (record { sfits = m })
+back32 z m = to_z-of_z {w = w32} (record { sfits = m })
 
 pub back64 : (z : ℤ) → mag z < 9223372036854775808 → to_z w64 (of_z w64 z) ≡ z
-back64 z m = to_z-of_z (record { sfits = m })
+back64 z m = to_z-of_z {w = w64} (record { sfits = m })
 
 -- ---- the parts above and below 0
 

@@ -1,7 +1,7 @@
 -- The number of each refusal, and number, index and value of each result (scope paper, "Refusal numbers"). Assumes nothing.
 use Rattle.std.specs.Prelude.{ℕ}
 use Rattle.refusal.specs.declared.Refusal.{Refusal}
-use Rattle.refusal.specs.declared.Refusal.TheVariants.{Size, Precision, CubeStrides, CubeStart, BufferLength, ElementCount, Int8Range, Slot, Bounds, Overlap, TableLength, XSelect, XEnd, YSelect, YEnd, Shift, Counters, OutputLength, PixelFormat, PixelKind, XOffset, PixelStrides, PixelOutside, ScriptLine, OwnerId, ImageKind, PixelLength, Fp16Nan, StoreInUse, StoreIncomplete, StoreAccess, LayerGroup}
+use Rattle.refusal.specs.declared.Refusal.TheVariants.{Size, Precision, CubeStrides, CubeStart, BufferLength, ElementCount, Int8Range, Slot, Bounds, Overlap, TableLength, XSelect, XEnd, YSelect, YEnd, Shift, Counters, OutputLength, PixelFormat, PixelKind, XOffset, PixelStrides, PixelOutside, ScriptLine, OwnerId, ImageKind, PixelLength, Fp16Nan}
 use Rattle.refusal.specs.declared.Answer.{Answer}
 use Rattle.refusal.specs.declared.Answer.TheVariants.{Accepted, Refused}
 use Rattle.refusal.specs.declared.Quantity.{Quantity}
@@ -61,18 +61,10 @@ code_of ScriptLine = 24
 code_of OwnerId = 25
 -- fp16 cell that is NaN
 code_of Fp16Nan = 26
--- a write access or data while any group is enabled
-code_of StoreInUse = 27
--- enabling with an incomplete table
-code_of StoreIncomplete = 28
 -- an image of an fp16 format, or of channels unlike the frame's
 code_of ImageKind = 29
 -- pixel buffer ends before the last pixel's end
 code_of PixelLength = 30
--- a table, entry, mode or address that isn't there, a value outside 16 bits, a write access not at 0, or a data or read unless the last accepted access is of its mode
-code_of StoreAccess = 31
--- a group above 1, already enabled, or done without enable
-code_of LayerGroup = 32
 
 -- 0 where the call was accepted, else the refusal's number
 abbrev pub answer_code : Answer → ℕ

@@ -34,10 +34,6 @@ pub enum Refusal {
     ImageKind,
     PixelLength,
     Fp16Nan,
-    StoreInUse,
-    StoreIncomplete,
-    StoreAccess,
-    LayerGroup,
 }
 
 // Accepted, or refused with the index at fault (the paper's "place").
@@ -87,10 +83,6 @@ pub fn code(r: Refusal) -> u32
         Refusal::ImageKind => 29,
         Refusal::PixelLength => 30,
         Refusal::Fp16Nan => 26,
-        Refusal::StoreInUse => 27,
-        Refusal::StoreIncomplete => 28,
-        Refusal::StoreAccess => 31,
-        Refusal::LayerGroup => 32,
     }
 }
 

@@ -89,18 +89,6 @@ enum-told-27 c = search rules
 enum-told-28 : tie.Need-enum-told-28
 enum-told-28 c = search rules
 
-enum-told-29 : tie.Need-enum-told-29
-enum-told-29 c = search rules
-
-enum-told-30 : tie.Need-enum-told-30
-enum-told-30 c = search rules
-
-enum-told-31 : tie.Need-enum-told-31
-enum-told-31 c = search rules
-
-enum-told-32 : tie.Need-enum-told-32
-enum-told-32 c = search rules
-
 returns : tie.Need-returns
 returns c = sym (ap code_of c.enum_told.given.1)
 
@@ -185,18 +173,6 @@ returns-27 c = sym (ap code_of c.enum-told27.given.1)
 returns-28 : tie.Need-returns-28
 returns-28 c = sym (ap code_of c.enum-told28.given.1)
 
-returns-29 : tie.Need-returns-29
-returns-29 c = sym (ap code_of c.enum-told29.given.1)
-
-returns-30 : tie.Need-returns-30
-returns-30 c = sym (ap code_of c.enum-told30.given.1)
-
-returns-31 : tie.Need-returns-31
-returns-31 c = sym (ap code_of c.enum-told31.given.1)
-
-returns-32 : tie.Need-returns-32
-returns-32 c = sym (ap code_of c.enum-told32.given.1)
-
 pub code-spec : {M : Type 1} → statement M
 code-spec =
     tie.close
@@ -229,10 +205,6 @@ code-spec =
     enum-told-26
     enum-told-27
     enum-told-28
-    enum-told-29
-    enum-told-30
-    enum-told-31
-    enum-told-32
     returns
     returns-2
     returns-3
@@ -260,8 +232,4 @@ code-spec =
     returns-25
     returns-26
     returns-27
-    returns-28
-    returns-29
-    returns-30
-    returns-31
-    returns-32)
+    returns-28)
