@@ -1,5 +1,7 @@
 // Runs the commands of the standard input, one a line, on the library and prints what comes of them, so that bytes from elsewhere
 // can be compared with the library's (docs/TESTING.md has the commands).
+#![tactic(auto)]
+
 mod calls;
 mod commands;
 mod line;

@@ -1,5 +1,7 @@
 // The ready-made lookup settings of the camera curve (scope paper, "Two tables"). The curve's definitions are here too; its entries are
 // given by `curve_stored` and by `curve_computed`.
+#![tactic(auto)]
+
 ghost use Rattle.std.specs.Prelude.{◌≡◌, true, ◌≤◌, pos};
 ghost use Rattle.lut.specs.Numbers.{between, scaled};
 ghost use Rattle.camera.specs.Ready.{chosen, ready_settings, ready_answer};

@@ -1,5 +1,6 @@
 // Columns: rows of elements that lie `plane` apart are written one element of each row after another, `stride` bytes from column to column,
 // and read back (scope paper, "Cells and cubes" and "Weights": the one form of both). The calls are in `columns_calls`.
+#![tactic(auto)]
 
 // Rows of elements as columns of bytes: row r has `count` elements from element `from + r·plane` on; column i has the `rows` elements of `size`
 // bytes each from byte `at + i·stride` on.

@@ -1,5 +1,7 @@
 // Blocks of columns written and read, and bytes cleared: the one loop of cubes and weights, on the definitions of `columns`. Eight bytes of a column
 // are four units of two bytes, gathered in a tile of at most 64 columns, then written.
+#![tactic(auto)]
+
 mod reading;
 mod tiles;
 mod writing;

@@ -1,4 +1,6 @@
 // Feature cubes packed and read back, whole or a box at a time, and boxes cleared (scope paper, "Cells and cubes").
+#![tactic(auto)]
+
 mod read;
 mod runs;
 mod write;

@@ -1,5 +1,7 @@
 // The camera curve computed from its rule, by Newton's steps (scope paper, "Two tables"; change request K4): no entry is stored. The calls and
 // their promises are those of `curve_stored`.
+#![tactic(auto)]
+
 ghost use Rattle.std.specs.Prelude.{◌≡◌, map, ◌*◌, ◌≤◌, length};
 ghost use Rattle.camera.specs.Curve.{root, curve_entry, curve_y, curve_x, indices, y_table, x_table};
 

@@ -1,4 +1,6 @@
 // The camera curve from stored entries (scope paper, "Two tables"). `curve_computed` has the same calls with the same promises, and no entries.
+#![tactic(auto)]
+
 ghost use Rattle.std.specs.Prelude.{◌≡◌};
 ghost use Rattle.camera.specs.Curve.{curve_y, curve_x, y_table, x_table};
 

@@ -45,7 +45,7 @@ raised-high (negsuc n) m = omega arith
 
 module _ {z : ℤ} (f : SFits w16 z) where
   wide_value : to_z w32 (of_z w32 (to_z w16 (of_z w16 z))) ≡ z
-  wide_value = ap (λ (v : ℤ). to_z w32 (of_z w32 v)) (to_z-of_z f) ∙ to_z-of_z (sfits_widen tt f)
+  wide_value = ap (λ (v : ℤ). to_z w32 (of_z w32 v)) (to_z-of_z {w = w16} f) ∙ to_z-of_z {w = w32} (sfits_widen {w = w16} tt f)
 
   raised_is : to_z w32 (of_z w32 (to_z w16 (of_z w16 z))) +ℤ pos 65536 ≡ pos (raised z)
   raised_is = ap (λ (v : ℤ). v +ℤ pos 65536) wide_value ∙ sum_is z f.sfits

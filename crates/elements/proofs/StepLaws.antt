@@ -6,7 +6,7 @@
 --     or-below                                 the bits of two numbers
 --     all_valid-none, all_valid-next             no element yet; one element more
 --     all_valid-at, all_valid-all                a pass that found no fault took each element, and back
-use Prim.Native.Nat.{ℕ, zero, suc, ◌+◌, ◌*◌, ◌%◌, ◌^◌, ◌<◌, ◌≤◌}
+use Prim.Native.Nat.{ℕ, zero, suc, ◌+◌, ◌%◌, ◌^◌, ◌<◌, ◌≤◌}
 use mathlib.Core.Path.{◌≡◌, refl, sym, ap, ◌∙◌}
 use mathlib.Core.Bool.{Bool, true, not, ◌&&◌}
 use mathlib.Core.List.{List}
@@ -34,7 +34,7 @@ use Rattle.elements.proofs.NanLaws.{is_nan-low}
 -- ---- one element
 
 pub read_back : (z : ℤ) → mag z < 2 ^ 15 → to_z w16 (of_z w16 z) ≡ z
-read_back z m = to_z-of_z (record { sfits = m })
+read_back z m = to_z-of_z {w = w16} (record { sfits = m })
 
 -- int8: the bits of an element 128 higher, by its word w
 int8-number : (z : ℤ) (w : ℕ) → mag z < 32768 → w ≡ bit_pattern z → ltb ((w + 128) % 65536) 256 ≡ le_z (negsuc 127) z && le_z z (pos 127)

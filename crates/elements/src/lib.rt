@@ -1,4 +1,6 @@
 // Elements: their bytes, and the values that a precision takes (scope paper, "Cells and cubes"; "Refusal numbers", 7; change request K7, 26).
+#![tactic(auto)]
+
 ghost use Rattle.std.specs.Prelude.{◌≡◌, false, ◌&&◌, ℕ, ◌+◌, ◌*◌, ◌/◌, ◌%◌, ◌^◌, ◌<◌, ◌≤◌, ltb, pos, ◌-ℤ◌, length, get_or};
 ghost use Rattle.refusal.specs.Checks.{in_order};
 ghost use Rattle.elements.specs.Bytes.{element_bytes, byte_of, bit_pattern, signed};

@@ -1,4 +1,6 @@
 // General laws for the crates above: tests, whole numbers, casts, ranges, loops (proofs/Lib.antt); and the lesser of two numbers.
+#![tactic(auto)]
+
 ghost use Rattle.std.specs.Prelude.{◌≡◌, min};
 
 // The lesser of two numbers.

@@ -1,6 +1,8 @@
 // The beginning of a list of calls, and one call of it: the calls of `cube`, `regions` and `parlour` themselves, whose promises are here the fold's steps
 // (history/specs/Program.antt). So the theorem about lists (history/proofs/Claims.antt) is about these calls (scope paper, "The plain picture"; change
 // requests K1, K3, K5).
+#![tactic(auto)]
+
 ghost use Rattle.std.specs.Prelude.{◌≡◌, []};
 ghost use Rattle.history.specs.Program.{state_of, step_of, step_with, held_reply, beginning, step, Call};
 

@@ -1,4 +1,6 @@
 // Whole numbers: saturation, and the laws behind signed arithmetic.
+#![tactic(auto)]
+
 ghost use Rattle.std.specs.Prelude.{◌≡◌};
 ghost use Rattle.integers.specs.Saturate.{saturate, beyond};
 

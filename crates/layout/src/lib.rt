@@ -1,4 +1,6 @@
 // Feature cubes: the types of their layouts, boxes and bytes (scope paper, "Cells and cubes"). The calls are in `layout_calls`.
+#![tactic(auto)]
+
 use refusal::Refusal;
 
 // Sizes, precision code, strides and start of a packed cube (the scope paper's "frame").

@@ -1,4 +1,6 @@
 // The checks of cube layouts and boxes, the extent, and whose a byte is: the calls on the definitions of `layout` (scope paper, "Cells and cubes").
+#![tactic(auto)]
+
 mod measure;
 mod owners;
 mod rules;

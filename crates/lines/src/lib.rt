@@ -1,4 +1,5 @@
 // Lines of a text, and what stands in a line: the types of lines and numbers (scope paper, "The sheet program"). The calls are in `lines_calls`.
+#![tactic(auto)]
 
 // A line: its length, held at 121, and its first 120 bytes.
 #[derive(Drop)]

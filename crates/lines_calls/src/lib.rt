@@ -1,4 +1,6 @@
 // Lines collected from parts of any size, their fields, words and numbers, and checksums: the calls on the definitions of `lines` (scope paper, "The sheet program").
+#![tactic(auto)]
+
 ghost use Rattle.std.specs.Prelude.{◌≡◌};
 ghost use Rattle.lines.specs.Texts.{part_length, same_text};
 ghost use Rattle.lines.specs.Numbers.{well_begun, number_of, with_minus, signed_of, no_numbers, numbers_behind};

@@ -1,4 +1,6 @@
 // The run of the two-table lookup: the call on the definitions of `lut` (scope paper, "Two tables").
+#![tactic(auto)]
+
 mod numbers;
 mod points;
 mod rows;

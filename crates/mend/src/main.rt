@@ -1,5 +1,7 @@
 // The mending program: makes the padding of a frame in a file zero again, and prints what stood there (change request K8). A readable input has at most 363 bytes, so that
 // a buffer that is full is unreadable whatever follows.
+#![tactic(auto)]
+
 use libc::STDIN_FILENO;
 
 fn main() {

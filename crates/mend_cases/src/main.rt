@@ -1,4 +1,6 @@
 // Runs the mending program's library on many inputs, over the files of data/: after each run, how it ended, and what then stands in a file that the case names.
+#![tactic(auto)]
+
 ghost use Rattle.std.specs.Prelude.{◌≡◌, length};
 
 use libc::{STDIN_FILENO, STDOUT_FILENO};

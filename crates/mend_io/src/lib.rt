@@ -1,5 +1,7 @@
 // The mending program's file work (change request K8): the first file is read twice, the second is written, and the report printed. Of reading and writing
 // themselves nothing is proved; what is given to print is promised by a checksum of its bytes.
+#![tactic(auto)]
+
 ghost use Rattle.std.specs.Prelude.{◌≡◌, true, ◌++◌, ◌+◌, ◌≤◌, ◌<◌, length};
 ghost use Rattle.refusal.specs.Checks.{in_order};
 ghost use Rattle.layout.specs.Rules.{layout_checks, room_checks};

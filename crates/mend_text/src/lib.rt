@@ -1,4 +1,6 @@
 // The mending program's input and its text: a frame and two file names; the lines of a report (change request K8).
+#![tactic(auto)]
+
 ghost use Rattle.std.specs.Prelude.{◌+◌, ◌≤◌, min, ◌≡◌, not, ◌&&◌, length, drop};
 ghost use Rattle.std.proofs.Math.Seq.{slice, paste};
 ghost use Rattle.lines.specs.Texts.{part_length, same_text};

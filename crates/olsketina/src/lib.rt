@@ -1,4 +1,6 @@
 // The library for C (include/olsketina.h): the paper's calls on numbers, slices and arrays of words.
+#![tactic(auto)]
+
 ghost use Rattle.std.specs.Prelude.{◌≡◌};
 ghost use Rattle.olsketina.specs.Sizes.{version};
 

@@ -1,4 +1,6 @@
 // The camera curve for C from stored entries (include/olsketina.h), an archive of its own; olsketina_curve_computed can take its place.
+#![tactic(auto)]
+
 ghost use Rattle.std.specs.Prelude.{◌≡◌};
 ghost use Rattle.camera.specs.Curve.{curve_y, curve_x, y_table, x_table};
 

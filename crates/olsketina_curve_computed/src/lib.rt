@@ -1,4 +1,6 @@
 // The camera curve for C, computed (include/olsketina.h; change request K4): an archive in place of olsketina_curve, with no entries in it.
+#![tactic(auto)]
+
 ghost use Rattle.std.specs.Prelude.{◌≡◌};
 ghost use Rattle.camera.specs.Curve.{curve_y, curve_x, y_table, x_table};
 

@@ -1,4 +1,6 @@
 // Packs one small cube and prints the packed buffer (scope paper, "Cells and cubes"; the layout is that of its sheet's example).
+#![tactic(auto)]
+
 ghost use Rattle.std.specs.Prelude.{◌≡◌, ℕ, ◌%◌, ◌<◌, pos, ◌-ℤ◌, length, get_or};
 
 use layout::CubeLayout;

@@ -1,4 +1,6 @@
 // Padding made zero again in a part of a file: the call on the definitions of `padding` (change request K8).
+#![tactic(auto)]
+
 mod lengths;
 mod rows;
 mod stretches;

@@ -1,5 +1,7 @@
 // A camera's picture painted into a region of a cube: the types of its conversion and of its outcome (change requests K3, K5). The call is in
 // `parlour_calls`.
+#![tactic(auto)]
+
 use refusal::Quantity;
 use regions::RegionTable;
 

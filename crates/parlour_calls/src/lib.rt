@@ -1,5 +1,7 @@
 // A camera's picture painted into a region of a cube: pixel setting, conversion of each component and edit of the region in one call, on the
 // definitions of `parlour` (change requests K3, K5).
+#![tactic(auto)]
+
 mod components;
 mod rules;
 mod strips;

@@ -1,4 +1,5 @@
 // One-plane pixel images: the types of their formats and settings (scope paper, "Pixels"). The calls are in `pixels_calls`.
+#![tactic(auto)]
 
 // Channels, bytes a pixel, precision code and largest X offset of a pixel format.
 #[derive(Drop)]

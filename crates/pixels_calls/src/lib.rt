@@ -1,4 +1,6 @@
 // The check of a pixel image's setting and the positions of its pixels: the calls on the definitions of `pixels` (scope paper, "Pixels").
+#![tactic(auto)]
+
 mod rules;
 mod table;
 

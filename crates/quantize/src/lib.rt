@@ -1,4 +1,6 @@
 // Integer conversion (scope paper, "Conversion", with change request K5: to the nearest).
+#![tactic(auto)]
+
 ghost use Rattle.std.specs.Prelude.{◌≡◌, ◌≤◌, ◌^◌, nat_abs, ◌-ℤ◌, ◌*ℤ◌};
 ghost use Rattle.refusal.specs.Checks.{in_order};
 ghost use Rattle.quantize.specs.Quantize.{lowest, highest, quantize_checks, nearest, conversion, quantize_answer};

@@ -1,4 +1,6 @@
 // One line of a sheet, read as a record (scope paper, "The sheet program"; change request K1).
+#![tactic(auto)]
+
 ghost use Rattle.std.specs.Prelude.{◌≡◌};
 ghost use Rattle.lines.specs.Texts.{fields_of};
 ghost use Rattle.records.specs.Records.{frame_of, stall_of, cell_of, leave_of, is_named, by_word, by_fields, line_record, record_of};

@@ -1,4 +1,6 @@
 // Why a call was refused, and what a call answers (scope paper, "Refusal numbers").
+#![tactic(auto)]
+
 ghost use Rattle.std.specs.Prelude.{◌≡◌};
 ghost use Rattle.refusal.specs.Codes.{code_of, answer_code, fault_index};
 ghost use Rattle.refusal.specs.Sizes.{size_valid};

@@ -1,4 +1,6 @@
 // Sixteen regions of interest in one cube, edited side by side: the types (scope paper, "Stalls"). The calls are in `regions_calls`.
+#![tactic(auto)]
+
 use layout::{CubeLayout, ElementBox};
 use refusal::{Answer, Refusal};
 

@@ -1,5 +1,7 @@
 // Placing, editing, reading and releasing sixteen regions: the calls on the definitions of `regions` (scope paper, "Stalls"; change request K1). Each
 // takes the id of the region's owner.
+#![tactic(auto)]
+
 mod overlap;
 mod rules;
 

@@ -1,4 +1,6 @@
 // The sheet: the types of its state and rows (scope paper, "The sheet program"). The calls are in `script_calls`.
+#![tactic(auto)]
+
 use lines::{Line, Lines};
 use refusal::Answer;
 use regions::RegionTable;

@@ -1,4 +1,6 @@
 // The sheet's input, fed in parts of any size, and its rows' text: the calls on the definitions of `script` (scope paper, "The sheet program").
+#![tactic(auto)]
+
 mod answers;
 
 ghost use Rattle.std.specs.Prelude.{◌≡◌};

@@ -1,6 +1,8 @@
 // The sheet program's reading and writing (scope paper, "The sheet program"): standard input to its end, and what the library gives to write, one text
 // after another, or nothing where it is not to be shown. Of reading and writing themselves nothing is proved; what is given to `write` is promised by a
 // checksum of its bytes.
+#![tactic(auto)]
+
 ghost use Rattle.std.specs.Prelude.{◌≡◌, min};
 ghost use Rattle.lines.specs.Collecting.{line_text};
 ghost use Rattle.lines.specs.Sums.{checksum};

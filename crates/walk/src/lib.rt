@@ -1,5 +1,7 @@
 // A walk over the atoms of a cube in scan order: columns fastest, then rows, then surfaces (change request K6). Its types; the calls are in
 // `walk_calls`.
+#![tactic(auto)]
+
 use refusal::Refusal;
 
 // Where a walk stands, before its next atom. `start` of `walk_calls` gives the first one; any numbers are a walk.

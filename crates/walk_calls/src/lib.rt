@@ -1,5 +1,7 @@
 // The atoms of a cube in scan order, one at a time: the calls on the definitions of `walk` (change request K6). A start makes every check of packing; a
 // step refuses nothing, and goes from atom to atom by sums alone.
+#![tactic(auto)]
+
 mod atoms;
 mod strides;
 

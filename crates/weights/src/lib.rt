@@ -1,4 +1,5 @@
 // Direct-convolution weights: the type of their layout (scope paper, "Weights"). The calls are in `weights_calls`.
+#![tactic(auto)]
 
 // Kernels, channels, rows and columns of a weight tensor (the scope paper's K, C, R, S), and its precision code.
 #[derive(Drop)]

@@ -1,4 +1,6 @@
 // Weights packed and read back, positions and counts: the calls on the definitions of `weights` (scope paper, "Weights").
+#![tactic(auto)]
+
 mod element;
 mod measure;
 mod read;
