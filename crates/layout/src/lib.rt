@@ -4,7 +4,7 @@
 use refusal::Refusal;
 
 // Sizes, precision code, strides and start of a packed cube (the scope paper's "frame").
-#[derive(Drop)]
+#[derive(Clone, Copy)]
 pub struct CubeLayout {
     pub width: u32,
     pub height: u32,
@@ -16,7 +16,7 @@ pub struct CubeLayout {
 }
 
 // The first channel, row and column of a box of elements, and how many of each.
-#[derive(Drop)]
+#[derive(Clone, Copy)]
 pub struct ElementBox {
     pub channel: u32,
     pub row: u32,
