@@ -2,7 +2,7 @@
 #![tactic(auto)]
 
 // Channels, bytes a pixel, precision code and largest X offset of a pixel format.
-#[derive(Drop)]
+#[derive(Clone, Copy)]
 pub struct PixelFormat {
     pub channels: u32,
     pub bytes: u32,
@@ -11,7 +11,7 @@ pub struct PixelFormat {
 }
 
 // A pixel image: format code, sizes, what the format must have, X offset, start and line stride.
-#[derive(Drop)]
+#[derive(Clone, Copy)]
 pub struct PixelSetting {
     pub format: u32,
     pub width: u32,
