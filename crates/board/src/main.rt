@@ -19,11 +19,13 @@ mod words;
 
 ghost use Rattle.std.specs.Prelude.{◌≡◌, ◌≤◌, length};
 
-use libc::STDIN_FILENO;
 use line::{Line, natural};
 use lists::Source;
 use state::State;
 use std::num::{wrapping_add_u64, wrapping_add_usize};
+
+// The descriptor of standard input.
+const STDIN_FILENO: i32 = 0;
 
 // A count, at most `most`.
 fn held(n: usize, most: usize) -> usize

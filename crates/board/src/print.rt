@@ -1,6 +1,8 @@
 // What is printed.
-use libc::STDOUT_FILENO;
 use refusal::Answer;
+
+// The descriptor of standard output.
+pub const STDOUT_FILENO: i32 = 1;
 
 pub fn end_line() {
     io::write_all(STDOUT_FILENO, b"\n");

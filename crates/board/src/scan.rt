@@ -3,9 +3,8 @@ use crate::calls::cube_layout;
 use crate::line::word;
 use crate::lists::{is_last, tell, tell_left, told};
 use crate::numbers::of_position;
-use crate::print::{end_line, print_answer, print_natural, print_same, print_text};
+use crate::print::{STDOUT_FILENO, end_line, print_answer, print_natural, print_same, print_text};
 use layout::CubeLayout;
-use libc::STDOUT_FILENO;
 use refusal::Answer;
 use walk::{NextAtom, Started, Walk};
 

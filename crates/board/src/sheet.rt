@@ -1,8 +1,7 @@
 // A sheet, whose bytes are the buffer, given whole and cut in two at each index (scope paper, "The sheet program").
 ghost use Rattle.std.specs.Prelude.{◌+◌, ◌≤◌, length};
 
-use crate::print::{end_line, print_line_number, print_natural};
-use libc::STDOUT_FILENO;
+use crate::print::{STDOUT_FILENO, end_line, print_line_number, print_natural};
 use sheet_io::Printed;
 
 // A sheet after a call for nothing.

@@ -4,8 +4,10 @@
 ghost use Rattle.std.specs.Prelude.{◌≡◌, ℕ, ◌%◌, ◌<◌, pos, ◌-ℤ◌, length, get_or};
 
 use layout::CubeLayout;
-use libc::STDOUT_FILENO;
 use refusal::{Answer, Refusal};
+
+// The descriptor of standard output.
+const STDOUT_FILENO: i32 = 1;
 
 // Three columns, two rows and forty channels of int8; 128 bytes from line to line, 256 from surface to surface.
 fn example_layout() -> CubeLayout {

@@ -8,9 +8,13 @@ ghost use Rattle.lines.specs.Collecting.{line_text};
 ghost use Rattle.lines.specs.Sums.{checksum};
 ghost use Rattle.sheet_io.specs.Printing.{start_printed, part_printed, end_printed, Reading, Whole};
 
-use libc::{STDIN_FILENO, STDOUT_FILENO};
 use lines::Line;
 use script::Sheet;
+
+// The descriptors of standard input and output.
+const STDIN_FILENO: i32 = 0;
+
+const STDOUT_FILENO: i32 = 1;
 
 // The state after what was read, and the checksum of all bytes that were written.
 #[derive(Drop)]
