@@ -2,7 +2,7 @@
 #![tactic(auto)]
 
 // Kernels, channels, rows and columns of a weight tensor (the scope paper's K, C, R, S), and its precision code.
-#[derive(Drop)]
+#[derive(Clone, Copy)]
 pub struct WeightLayout {
     pub kernels: u32,
     pub channels: u32,
