@@ -77,7 +77,7 @@ sum_fits z f g = within-fits (sum-within z f g) (lit< tt)
 -- as the code has it: each number is read back
 pub shifted_sum : (z : ℤ) {n : ℕ} → nat_abs z ≤ 2 ^ 47 → n ≤ 2147483648 → (m : ℕ) → held (shr_z (held (held z +ℤ held (pos n))) m) ≡ shr_z (z +ℤ pos n) m
 shifted_sum z f g m =
-    rw (to_z-of_z {w = w64} (within-fits (abs-within z f) (lit< tt)), to_z-of_z (natural-fits g), to_z-of_z (sum_fits z f g)) (to_z-of_z (within-fits (within-shr m (sum-within z f g)) (lit< tt)))
+    rw (to_z-of_z {w = w64} (within-fits (abs-within z f) (lit< tt)), to_z-of_z (natural-fits g), to_z-of_z (sum_fits z f g)) (to_z-of_z {w = w64} (within-fits (within-shr m (sum-within z f g)) (lit< tt)))
 
 -- ---- the sign
 
