@@ -2,21 +2,21 @@
 #![tactic(auto)]
 
 // A line: its length, held at 121, and its first 120 bytes.
-#[derive(Drop)]
+#[derive(Clone, Copy)]
 pub struct Line {
     pub length: u32,
     pub bytes: [u8; 120],
 }
 
 // How many lines have ended, and the line in progress.
-#[derive(Drop)]
+#[derive(Clone, Copy)]
 pub struct Lines {
     pub count: u64,
     pub line: Line,
 }
 
 // The lines after a part of the input, how many bytes of the part were read, and whether the last of them ended the line.
-#[derive(Drop)]
+#[derive(Clone, Copy)]
 pub struct Collected {
     pub lines: Lines,
     pub read: usize,
@@ -24,14 +24,14 @@ pub struct Collected {
 }
 
 // The number that a text is: whether a minus stands before it, and its digits' value.
-#[derive(Drop)]
+#[derive(Clone, Copy)]
 pub enum Number {
     Unreadable,
     Is(bool, u32),
 }
 
 // Numbers, the first `count` of the values, the others 0; the count is 8 if a field is no number or there are over 7.
-#[derive(Drop)]
+#[derive(Clone, Copy)]
 pub struct Numbers {
     pub count: usize,
     pub values: [u32; 7],
