@@ -6,7 +6,7 @@ use refusal::Quantity;
 use regions::RegionTable;
 
 // What every component is converted with: (d - offset) * scale over 2^shift, to the nearest, to the cube's precision (the scope paper's offset, SF and shift).
-#[derive(Drop)]
+#[derive(Clone, Copy)]
 pub struct Conversion {
     pub offset: i16,
     pub scale: i16,
