@@ -1,4 +1,4 @@
-//! Declares what the Rattle sources export for C, takes the refusals from the header, and links the archives that `rt staticlib` writes.
+//! Declares what the Rattle sources export for C, takes the refusals from the header, and links the archives that `tools/build` writes.
 
 use std::path::PathBuf;
 use std::{env, fs};
@@ -25,7 +25,7 @@ fn main() {
         println!("cargo:rerun-if-changed={}", path.join("src").display());
         println!("cargo:rerun-if-changed={}", archive.display());
         if !archive.exists() {
-            println!("cargo::error={} is missing: run `rt staticlib {name}` in the repository's folder", archive.display());
+            println!("cargo::error={} is missing: run `tools/build {name}` in the repository's folder", archive.display());
         }
         exports.push(signatures::exports_of(&path));
     }

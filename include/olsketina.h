@@ -1,7 +1,7 @@
 /* Olsketina: memory layouts of a small NVDLA accelerator, for C (from C11 on) and C++ (from C++17 on), on x86-64 Linux.
  *
- * Link libolsketina.a (`rt staticlib olsketina`), and for the camera curve one of two archives: libolsketina_curve.a, which has its entries
- * stored, or libolsketina_curve_computed.a, which computes them and is smaller (`rt staticlib olsketina_curve`, `olsketina_curve_computed`).
+ * Link libolsketina.a (`tools/build olsketina`), and for the camera curve one of two archives: libolsketina_curve.a, which has its entries
+ * stored, or libolsketina_curve_computed.a, which computes them and is smaller (`tools/build olsketina_curve`, `olsketina_curve_computed`).
  * Numbers and refusals are those of the scope paper and of the change requests that have landed (docs/changes); the promise of each call stands
  * above it in crates/olsketina/src/, crates/olsketina_curve/src/ and crates/olsketina_curve_computed/src/.
  *

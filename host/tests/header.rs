@@ -308,7 +308,7 @@ fn stored(bytes: &[u8]) -> [bool; 2] {
 /// one another.
 #[test]
 fn one_archive_has_the_tables_of_the_curve() {
-    let read = |name| fs::read(archive(name)).unwrap_or_else(|error| panic!("{name}: {error}; run `rt staticlib {name}`"));
+    let read = |name| fs::read(archive(name)).unwrap_or_else(|error| panic!("{name}: {error}; run `tools/build {name}`"));
     let [with, without] = signatures::CURVES.map(read);
     assert_eq!(stored(&with), [true; 2]);
     for bytes in [without, read("olsketina")] {

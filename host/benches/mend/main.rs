@@ -183,7 +183,7 @@ fn main() -> Result<(), Box<dyn Error>> {
 fn measured(folder: &Path) -> Result<(), Box<dyn Error>> {
     let program = Path::new(env!("CARGO_MANIFEST_DIR")).join("../target/bin/mend");
     if !program.exists() {
-        return Err(format!("{} is missing: run `rt check mend` in the repository's folder", program.display()).into());
+        return Err(format!("{} is missing: run `tools/build mend` in the repository's folder", program.display()).into());
     }
     measure(program.canonicalize()?, folder)
 }
