@@ -5,7 +5,7 @@ use layout::{CubeLayout, ElementBox};
 use refusal::{Answer, Refusal};
 
 // A rectangle of a cube's positions: its first column and row, its columns and rows.
-#[derive(Drop)]
+#[derive(Clone, Copy)]
 pub struct Rectangle {
     pub column: u32,
     pub row: u32,
@@ -15,7 +15,7 @@ pub struct Rectangle {
 
 // A slot of the table: whether a region is placed in it, the id of the region's owner, 1 to 65535 (the "pupil's number"), and its rectangle, over all
 // channels (the scope paper's "stall"). The id and the rectangle of a slot that is not placed mean nothing.
-#[derive(Drop)]
+#[derive(Clone, Copy)]
 pub struct Region {
     pub placed: bool,
     pub owner: u32,
@@ -23,7 +23,7 @@ pub struct Region {
 }
 
 // A cube's layout and its sixteen slots (the scope paper's "desk").
-#[derive(Drop)]
+#[derive(Clone, Copy)]
 pub struct RegionTable {
     pub layout: CubeLayout,
     pub slots: [Region; 16],
