@@ -2,10 +2,11 @@
 // a buffer that is full is unreadable whatever follows.
 #![tactic(auto)]
 
-use libc::STDIN_FILENO;
+// The descriptor of standard input.
+const STDIN_FILENO: i32 = 0;
 
-fn main() {
+fn main(rt: HostRuntime) {
     let mut input = io::buffer();
     let n = io::read_full(STDIN_FILENO, &mut input);
-    mend_io::run(&input[..n]);
+    mend_io::run(&rt, &input[..n]);
 }

@@ -2,7 +2,7 @@
 // themselves nothing is proved; what is given to print is promised by a checksum of its bytes.
 #![tactic(auto)]
 
-ghost use Rattle.std.specs.Prelude.{◌≡◌, true, ◌++◌, ◌+◌, ◌≤◌, ◌<◌, length};
+ghost use Rattle.std.specs.Prelude.{◌≡◌, true, ◌++◌, ◌+◌, ◌≤◌, ◌<◌, length, IfSome};
 ghost use Rattle.refusal.specs.Checks.{in_order};
 ghost use Rattle.layout.specs.Rules.{layout_checks, room_checks};
 ghost use Rattle.lines.specs.Sums.{checksum};
@@ -15,10 +15,15 @@ ghost use Rattle.mend_io.specs.Ending.{Ends};
 ghost use Rattle.mend_io.specs.Steps.{number_end, Batched, Shown, Stepped, Copied, Written, Mends};
 
 use layout::{CubeLayout, ElementBox};
-use libc::{SEEK_SET, STDOUT_FILENO};
 use lines::Line;
 use mend_text::Input;
 use refusal::{Answer, Quantity};
+use std::fs::File;
+use std::io::{Read, Seek, SeekFrom, Write};
+use std::str::from_utf8;
+
+// The descriptor of standard output.
+const STDOUT_FILENO: i32 = 1;
 
 // How a run ended: the number printed last, 0 if none; the length of the first file as it was read; a checksum of all bytes given to print.
 #[derive(Drop)]
@@ -56,6 +61,43 @@ enum Step {
     More(u64, u64),
     End,
     Failed(u64),
+}
+
+// ---- the system's files. A name is UTF-8 text to the system's library: one that is not will not open.
+// A file to read.
+fn open_file(rt: &HostRuntime, name: &[u8]) -> Option<File> {
+    match from_utf8(name) {
+        Ok(text) => File::open(rt, text).ok(),
+        Err(_) => None,
+    }
+}
+
+// A file to write, made or emptied.
+fn make_file(rt: &HostRuntime, name: &[u8]) -> Option<File> {
+    match from_utf8(name) {
+        Ok(text) => File::create(rt, text).ok(),
+        Err(_) => None,
+    }
+}
+
+// Reads some bytes, and says how many; none at the file's end. Nothing where the read failed.
+fn read_part(from: &File, part: &mut [u8]) -> Option<usize>
+    ensures { IfSome result (λ n. n ≤ length part.new) }
+{
+    let mut file = from;
+    file.read(part).ok()
+}
+
+// Writes all bytes, and says whether all went well.
+fn write_part(to: &File, part: &[u8]) -> bool {
+    let mut file = to;
+    file.write_all(part).is_ok()
+}
+
+// Goes back to the file's first byte, and says whether all went well.
+fn back_to_start(from: &File) -> bool {
+    let mut file = from;
+    file.seek(SeekFrom::Start(0)).is_ok()
 }
 
 // ---- printing
@@ -146,7 +188,7 @@ fn give_part(
     layout: CubeLayout,
     first: u64,
     size: u64,
-    to: i32,
+    to: &File,
     sum: u64,
     part: &mut [u8],
     positions: &mut [u64],
@@ -164,7 +206,7 @@ fn give_part(
             sum: sum,
         };
     };
-    if !io::write_all(to, part) {
+    if !write_part(to, part) {
         return Printed {
             whole: false,
             sum: sum,
@@ -178,8 +220,8 @@ fn give_part(
 fn copy_part(
     layout: CubeLayout,
     size: u64,
-    from: i32,
-    to: i32,
+    from: &File,
+    to: &File,
     at: u64,
     sum: u64,
     part: &mut [u8],
@@ -190,12 +232,10 @@ fn copy_part(
     requires { 25 ≤ length text.old }
     ensures { Stepped layout size at sum result }
 {
-    let got = libc::read(from, part);
-    let n = io::count(got, part);
+    let Some(n) = read_part(from, part) else {
+        return Step::Failed(sum);
+    };
     if n == 0 {
-        if got < 0 {
-            return Step::Failed(sum);
-        }
         return Step::End;
     }
     let given = give_part(
@@ -219,8 +259,8 @@ fn copy_part(
 fn copy(
     layout: CubeLayout,
     size: u64,
-    from: i32,
-    to: i32,
+    from: &File,
+    to: &File,
     part: &mut [u8],
     positions: &mut [u64],
     olds: &mut [u8],
@@ -266,7 +306,7 @@ fn places() -> [u64; 65536]
 }
 
 // The copying, with its buffers: a part, a report's positions and old values, and a text of lines.
-fn copy_all(layout: CubeLayout, size: u64, from: i32, to: i32) -> Printed
+fn copy_all(layout: CubeLayout, size: u64, from: &File, to: &File) -> Printed
     ensures { Copied layout size result }
 {
     let mut part = io::large_buffer();
@@ -287,18 +327,20 @@ fn copy_all(layout: CubeLayout, size: u64, from: i32, to: i32) -> Printed
 
 // ---- files
 // The second file is made or emptied, and filled.
-fn write_second(layout: CubeLayout, size: u64, from: i32, second: &[u8]) -> Ended
+fn write_second(
+    rt: &HostRuntime,
+    layout: CubeLayout,
+    size: u64,
+    from: &File,
+    second: &[u8],
+) -> Ended
     ensures { Written layout size result }
 {
-    let to = os::open_overwrite(second);
-    if to < 0 {
+    let Some(to) = make_file(rt, second) else {
         return last(0, 24, size);
-    }
-    let copied = copy_all(layout, size, from, to);
+    };
+    let copied = copy_all(layout, size, from, &to);
     let sum = copied.sum;
-    if libc::close(to) != 0 {
-        return last(sum, 24, size);
-    }
     if !copied.whole {
         return last(sum, 24, size);
     }
@@ -325,16 +367,14 @@ fn check(layout: CubeLayout, size: u64) -> Answer
 }
 
 // The file's length, by reading it to its end. A length that no number of 64 bits holds is never read.
-fn length_of(from: i32) -> Length {
+fn length_of(from: &File) -> Length {
     let mut buffer = io::large_buffer();
     let mut seen: u64 = 0;
     while seen < 18446744073709486080 {
-        let got = libc::read(from, &mut buffer);
-        let n = io::count(got, &buffer);
+        let Some(n) = read_part(from, &mut buffer) else {
+            return Length::Unreadable;
+        };
         if n == 0 {
-            if got < 0 {
-                return Length::Unreadable;
-            }
             return Length::Bytes(seen);
         }
         seen += n as u64;
@@ -343,40 +383,37 @@ fn length_of(from: i32) -> Length {
 }
 
 // The first file is open: its length, the frame's checks over it, and the second file.
-fn mend_first(layout: CubeLayout, from: i32, second: &[u8]) -> Ended
+fn mend_first(rt: &HostRuntime, layout: CubeLayout, from: &File, second: &[u8]) -> Ended
     ensures { Mends layout result }
 {
     let Length::Bytes(size) = length_of(from) else {
         return last(0, 24, 0);
     };
-    if libc::lseek(from, 0, SEEK_SET) != 0 {
+    if !back_to_start(from) {
         return last(0, 24, size);
     }
     match check(layout, size) {
         Answer::Refused(r, _) => last(0, refusal::code(r), size),
-        Answer::Accepted => write_second(layout, size, from, second),
+        Answer::Accepted => write_second(rt, layout, size, from, second),
     }
 }
 
 // Both files by name.
-fn mend_files(layout: CubeLayout, first: &[u8], second: &[u8]) -> Ended
+fn mend_files(rt: &HostRuntime, layout: CubeLayout, first: &[u8], second: &[u8]) -> Ended
     ensures { Mends layout result }
 {
-    let from = os::open_read(first);
-    if from < 0 {
+    let Some(from) = open_file(rt, first) else {
         return last(0, 24, 0);
-    }
-    let ended = mend_first(layout, from, second);
-    libc::close(from);
-    ended
+    };
+    mend_first(rt, layout, &from, second)
 }
 
 // The program: what the input asks for, and how it ended.
-pub fn run(text: &[u8]) -> Ended
+pub fn run(rt: &HostRuntime, text: &[u8]) -> Ended
     ensures { Ends (request_of text.now) result }
 {
     match mend_text::read_input(text) {
         Input::Unreadable => last(0, 24, 0),
-        Input::Names(layout, a, b, c, d) => mend_files(layout, &text[a..b], &text[c..d]),
+        Input::Names(layout, a, b, c, d) => mend_files(rt, layout, &text[a..b], &text[c..d]),
     }
 }
