@@ -2,12 +2,8 @@
 use lib.Dec.{lit≤}
 use Rattle.camera.specs.Curve.{curve_x, x_table}
 use Rattle.curve_stored.proofs.StoredLaws.{curve-all}
-use Rattle.curve_stored.proofs.x_table.Statement.{statement}
-use Rattle.curve_stored.proofs.x_table.Tie as tie
+use Rattle.curve_stored.proofs.x_table.Goals as goal
 
-returns : tie.Need-returns
+pub returns : goal.returns
 unfolding curve_x x_table
 returns c = curve-all 64 262144 _ 0 tt (lit≤ tt)
-
-pub x-table-spec : {M : Type 1} → statement M
-x-table-spec = tie.close (tie.spec returns)

@@ -2,12 +2,8 @@
 use lib.Dec.{lit≤}
 use Rattle.camera.specs.Curve.{curve_y, y_table}
 use Rattle.curve_stored.proofs.StoredLaws.{curve-all}
-use Rattle.curve_stored.proofs.y_table.Statement.{statement}
-use Rattle.curve_stored.proofs.y_table.Tie as tie
+use Rattle.curve_stored.proofs.y_table.Goals as goal
 
-returns : tie.Need-returns
+pub returns : goal.returns
 unfolding curve_y y_table
 returns c = curve-all 256 1048576 _ 0 tt (lit≤ tt)
-
-pub y-table-spec : {M : Type 1} → statement M
-y-table-spec = tie.close (tie.spec returns)
