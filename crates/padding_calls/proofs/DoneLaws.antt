@@ -2,7 +2,7 @@
 --     done-start, done_all                  no byte, and all bytes
 --     done-clean, done-dirt, done-skip      one byte that stays, one that is reported, several that are no padding
 --     zero-clean, padding-dirty             whether a byte is reported
-use Prim.Native.Nat.{ℕ, zero, suc, ◌+◌, ◌-◌, ◌≤◌, ◌<◌}
+use Prim.Native.Nat.{ℕ, zero, suc, ◌+◌, ◌≤◌, ◌<◌}
 use native.Mathlib.Omega.{arith}
 use mathlib.Core.Path.{◌≡◌, refl, sym, ap, subst, ◌∙◌}
 use mathlib.Core.Bool.{true, false}

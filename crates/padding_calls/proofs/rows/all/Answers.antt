@@ -1,0 +1,37 @@
+-- `padding_calls::rows::all` meets its contract: what stands before the loop's byte is mended; each turn ends a stretch, or the part. Assumes nothing.
+use Prim.Native.Nat.{ℕ, ◌+◌, ◌%◌, ◌≤◌, ◌<◌}
+use native.Mathlib.Omega.{arith}
+use mathlib.Core.Path.{◌≡◌, refl, sym, ap, ◌∙◌}
+use mathlib.Core.Bool.{◌&&◌}
+use lib.Dec.{leb}
+use lib.ListN.{length}
+use Rattle.layout.specs.Owners.{owner}
+use Rattle.padding.specs.Calls.{lent}
+use Rattle.padding_calls.specs.Steps.{is_padding}
+use Rattle.padding_calls.proofs.DoneLaws.{done-start}
+use Rattle.padding_calls.proofs.rows.all.Goals as goal
+
+pub loop-i-init : goal.loop-i-init
+loop-i-init c =
+    let a = c.args in
+    (omega arith, omega arith, refl, refl, refl, done-start a.layout a.first (lent a.part.now a.positions.now a.olds.now))
+
+pub loop-i-preserved : goal.loop-i-preserved
+loop-i-preserved c =
+    let l = c.loop-i in
+    let a = c.args in
+    let s = c.next-s.result in
+    let pad = c.elements_end-pad.result in
+    -- which of the turn's bytes are padding
+    let owners : (x : ℕ) → l.i ≤ x → x < c.byte_of-to.result → is_padding (owner a.layout (a.first + x)) ≡ (s.atoms && leb pad ((a.first + x) % 32)) =
+    λ x hi hx. c.next-s.ensures.owners (a.first + x) (omega (arith, hi)) (omega (arith, hx, c.byte_of-to.ensures))
+    ∙ ap (λ (n : ℕ). s.atoms && leb n ((a.first + x) % 32)) (sym c.elements_end-pad.ensures) in
+    let within : c.byte_of-to.result ≤ length l.part = omega (arith, c.byte_of-to.ensures) in
+    let g = c.stretch-n.ensures in (
+      omega (arith, within, l.invariant.2),
+      g.count_le,
+      g.part_length ∙ l.invariant.2,
+      g.positions_length ∙ l.invariant.3,
+      g.olds_length ∙ l.invariant.4,
+      g.goes a.layout (lent a.part.now a.positions.now a.olds.now) (sym l.invariant.2) l.invariant.5 owners,
+    )
