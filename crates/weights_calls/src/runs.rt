@@ -9,7 +9,7 @@ use columns::ColumnBlock;
 use weights::WeightLayout;
 
 // The first kernel of a group, the channel block, and the run's first kernel in the group.
-#[derive(Drop)]
+#[derive(Clone, Copy)]
 pub(crate) struct Run {
     pub(crate) first: u32,
     pub(crate) block: u32,
