@@ -6,7 +6,7 @@ use refusal::Answer;
 use regions::RegionTable;
 
 // The state between two parts of the input: the lines that ended and the one in progress; whether a frame was accepted, and its region table.
-#[derive(Drop)]
+#[derive(Clone, Copy)]
 pub struct Sheet {
     pub lines: Lines,
     pub framed: bool,
