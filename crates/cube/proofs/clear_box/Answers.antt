@@ -1,0 +1,14 @@
+-- `cube::clear_box` meets its contract: a refused call clears nothing, an accepted one clears the box. Assumes nothing.
+use mathlib.Core.Path.{sym, ◌∙◌}
+use Rattle.cube.proofs.FinalLaws.{was-cleared, clear_kept}
+use Rattle.cube.proofs.clear_box.Goals as goal
+
+pub returns-in_default-clause-left : goal.returns-in_default-clause-left
+returns-in_default-clause-left c =
+    let a = c.args in
+    clear_kept a.layout a.b a.buffer.now (sym c.check_room-a.ensures ∙ c.in_default.is)
+
+pub returns-clause-left : goal.returns-clause-left
+returns-clause-left c =
+    let a = c.args in
+    was-cleared a.layout a.b a.buffer.now (sym c.check_room-a.ensures ∙ c.in-Accepted.is) c.zeros.ensures
