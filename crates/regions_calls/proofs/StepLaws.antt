@@ -40,7 +40,7 @@ use Rattle.layout.proofs.CallLaws.{box-counts}
 use Rattle.regions.specs.declared.Rectangle.{Rectangle}
 use Rattle.regions.specs.declared.Region.{Region}
 use Rattle.regions.specs.declared.RegionTable.{RegionTable}
-use Rattle.regions.specs.Slots.{rectangle, Slot, empty, filled, slot_of, slots_of, overlaps, rectangle_inside}
+use Rattle.regions.specs.Slots.{Slot, empty, filled, slot_of, slots_of, overlaps, rectangle_inside}
 use Rattle.regions.specs.Rules.{Access, slot_at, is_filled, rectangle_of, id_of, rectangle_named, box_in_rectangle, cube_box, region_box, whole_region, slot_checks, region_box_checks, access_of, read_checks, edit_checks, release_checks}
 use Rattle.regions.specs.Calls.{no_region, edit_answer, edit_buffer, read_answer, read_elements, release_answer, release_table, release_buffer, region_position, region_count}
 use Rattle.regions.proofs.RuleLaws.{ValidBounds, box-accepted}

@@ -1,0 +1,16 @@
+-- `regions_calls::read` meets its contract: a call refused by 1 to 4, 8, 25 or 9 fills nothing, and past them it reads the box that was found. Assumes nothing.
+use mathlib.Core.Path.{refl, sym, ◌∙◌}
+use Rattle.regions_calls.proofs.StepLaws.{read-refused, read_found}
+use Rattle.regions_calls.proofs.read.Goals as goal
+
+pub returns-in-Refused : goal.returns-in-Refused
+returns-in-Refused c =
+    let a = c.args in
+    let e = read-refused a.table a.slot a.id a.b a.buffer.now a.elements.now (sym c.find_box.ensures ∙ c.in-Refused.is) in
+    record { answered = e.0; kept = refl; left = e.1 }
+
+pub returns-in-At : goal.returns-in-At
+returns-in-At c =
+    let a = c.args in
+    let e = read_found a.table a.slot a.id a.b a.buffer.now a.elements.now (sym c.find_box.ensures ∙ c.in-At.is) in
+    record { answered = c.read_box-answer.ensures.answered ∙ e.0; kept = refl; left = c.read_box-answer.ensures.left ∙ e.1 }
