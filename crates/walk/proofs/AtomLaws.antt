@@ -3,7 +3,7 @@
 --     channel-at, byte_at      channel and byte of an atom's byte
 --     channel-before           it is before the last channel's end
 --     atomByte-packed          the byte
-use Prim.Native.Nat.{ℕ, suc, ◌+◌, ◌-◌, ◌*◌, ◌/◌, ◌%◌, ◌≤◌, ◌<◌}
+use Prim.Native.Nat.{ℕ, suc, ◌+◌, ◌-◌, ◌*◌, ◌/◌, ◌%◌}
 use native.Mathlib.Nat.{mul-le-mul_right, mod-lt, div-add-mod'}
 use native.Mathlib.Decide.{dec_lt}
 use native.Mathlib.Omega.{arith}

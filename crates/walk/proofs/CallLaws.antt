@@ -24,7 +24,7 @@ use Rattle.walk.specs.declared.Walk.{Walk}
 use Rattle.walk.specs.declared.Started.TheVariants.{Walking, Refused}
 use Rattle.walk.specs.declared.NextAtom.TheVariants.{At}
 use Rattle.walk.specs.Walks.{first_walk, walk_start, started_answer}
-use Rattle.walk.specs.Scans.{Told, step_told, InScan, atom_count, scan_index, ScanAt, scan_position, atom_told, none_told, steps_written, WholeWalk}
+use Rattle.walk.specs.Scans.{Told, step_told, InScan, atom_count, scan_index, scan_position, atom_told, steps_written, WholeWalk}
 use Rattle.walk.proofs.ScanLaws.{scan-at, scanPosition-own, told-atom, told_none}
 use Rattle.walk.proofs.WriteLaws.{all-written}
 

@@ -2,7 +2,7 @@
 -- at once the earlier in the order; and steps of walks made by hand. Assumes nothing.
 use Prim.Native.Nat.{ℕ}
 use mathlib.Core.Path.{◌≡◌, refl}
-use mathlib.Core.List.{List, [], ◌∷◌, ◌++◌, map}
+use mathlib.Core.List.{List, [], ◌∷◌, map}
 use lib.IntN.{ℤ, pos, negsuc, ◌-ℤ◌}
 use lib.ListN.{get_or, replicate}
 use Rattle.refusal.specs.declared.Refusal.TheVariants.{Int8Range, Fp16Nan}

@@ -8,10 +8,9 @@ use Prim.Native.Nat.{ℕ, suc, ◌+◌, ◌-◌, ◌*◌, ◌^◌, ◌≤◌, �
 use native.Mathlib.Nat.{mul-le-mul_right}
 use native.Mathlib.Decide.{dec_lt}
 use native.Mathlib.Omega.{arith}
-use mathlib.Core.Path.{◌≡◌, refl, sym, ap, subst, subst⁻¹, ◌∙◌}
-use mathlib.Core.Bool.{true, false}
+use mathlib.Core.Path.{◌≡◌, refl, ap, subst⁻¹}
+use mathlib.Core.Bool.{true}
 use mathlib.Core.List.{List}
-use lib.Dec.{ltb}
 use lib.IntN.{ℤ}
 use lib.ListN.{replicate}
 use borrow.Author.Tests.{lt-ltb, le-ltb}
@@ -21,8 +20,6 @@ use Rattle.layout.specs.declared.CubeLayout.{CubeLayout}
 use Rattle.layout.specs.Geometry.{size_of, surfaces, raw_index}
 use Rattle.layout.proofs.Valid.{Valid}
 use Rattle.walk.specs.declared.Walk.{Walk}
-use Rattle.walk.specs.declared.Stride.{Stride}
-use Rattle.walk.specs.declared.Step.{Step}
 use Rattle.walk.specs.declared.NextAtom.TheVariants.{At, NoneLeft}
 use Rattle.walk.specs.Walks.{atom_elements, first_walk, stride_of, moved, atom_left, atom_bytes, walk_step}
 use Rattle.walk.specs.Scans.{scan_position, InScan}

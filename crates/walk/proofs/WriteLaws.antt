@@ -4,13 +4,12 @@
 --     all-written                   all of them
 use Prim.Native.Nat.{ℕ, zero, suc, ◌+◌, ◌-◌, ◌*◌, ◌/◌, ◌%◌, ◌^◌, ◌≤◌, ◌<◌}
 use native.Mathlib.Nat.{not-suc-le-zero, eq-or-lt_of_le}
-use native.Mathlib.Decide.{dec_lt, dec_le}
+use native.Mathlib.Decide.{dec_lt}
 use native.Mathlib.Omega.{arith}
 use mathlib.Core.Path.{◌≡◌, refl, sym, ap, subst, subst⁻¹, ◌∙◌}
 use mathlib.Core.Logic.{◌⊎◌, inl, inr, ⊎_elim}
 use mathlib.Core.Bool.{Bool, true, false, cond, ◌&&◌}
 use mathlib.Core.List.{List}
-use lib.Arith.{digits_lt}
 use lib.Dec.{leb, ltb}
 use lib.IntN.{ℤ}
 use lib.ListN.{length, get_or, get_or-eq_default}
@@ -22,7 +21,7 @@ use Rattle.elements.specs.Lists.{tabulate}
 use Rattle.elements.proofs.ListLaws.{length-remade, get_or-remade}
 use Rattle.elements.proofs.TabulateLaws.{get_d_tabulate}
 use Rattle.layout.specs.declared.CubeLayout.{CubeLayout}
-use Rattle.layout.specs.Geometry.{size_of, surfaces, atom_position, cube_extent}
+use Rattle.layout.specs.Geometry.{size_of, atom_position, cube_extent}
 use Rattle.layout.specs.Owners.{Owner, element, padding, outside, surface_of, row_of, column_of, byte_in_atom, in_atom, atom_owner, owner}
 use Rattle.layout.specs.Contents.{packed_byte, packed}
 use Rattle.layout.proofs.Valid.{Valid}
@@ -32,7 +31,7 @@ use Rattle.layout.proofs.Extents.{atom-within}
 use Rattle.walk.specs.declared.Walk.{Walk}
 use Rattle.walk.specs.declared.NextAtom.TheVariants.{At}
 use Rattle.walk.specs.Walks.{first_walk}
-use Rattle.walk.specs.Scans.{Told, step_told, InScan, atom_count, scan_index, scan_position, atom_told, none_told, written_at, steps_written}
+use Rattle.walk.specs.Scans.{Told, step_told, InScan, atom_count, scan_index, scan_position, atom_told, written_at, steps_written}
 use Rattle.walk.proofs.ScanLaws.{scan_index-lt, scan-at, told-atom, told_none}
 
 -- ---- 32 bytes written

@@ -5,7 +5,7 @@
 use refusal::Refusal;
 
 // Where a walk stands, before its next atom. `start` of `walk_calls` gives the first one; any numbers are a walk.
-#[derive(Drop)]
+#[derive(Clone, Copy)]
 pub struct Walk {
     // the next atom: its byte position, and the raw index of its first element
     pub position: u64,
@@ -27,7 +27,7 @@ pub struct Walk {
 }
 
 // What is left behind an atom, and how many bytes and elements further on the next one begins.
-#[derive(Drop)]
+#[derive(Clone, Copy)]
 pub struct Stride {
     pub columns: u64,
     pub rows: u64,
