@@ -1,0 +1,18 @@
+-- `mend_io::copy` meets its contract. The loop's invariant: the header and the reports of the parts so far are printed, and the buffers keep their lengths. The measure is what is left
+-- of the length read: a part has at least one byte, and ends within it. Assumes nothing.
+use Prim.Native.Nat.{◌-◌}
+use native.Mathlib.Omega.{arith}
+use mathlib.Core.Path.{◌≡◌, refl}
+use lib.ListN.{length}
+use borrow.Author.Rules.{rules}
+use borrow.Author.Tests.{not-true}
+use Rattle.mend_io.specs.Steps.{PartCopied}
+use Rattle.mend_io.proofs.CopyLaws.{Copying, copying-none, copying-more, copied-begun, copied-end, copied-failed, stepped-more, stepped-failed}
+use Rattle.mend_io.proofs.copy.Given as goal
+
+abbrev pub invariant-loop-next : goal.invariant-loop-next
+invariant-loop-next l =
+    Copying l.layout l.at l.sum × (length l.part ≡ length l.initial.part) × (length l.positions ≡ length l.initial.positions) × (length l.olds ≡ length l.initial.olds) × (length l.text ≡ length l.initial.text)
+
+abbrev pub decreases-loop-next : goal.decreases-loop-next
+decreases-loop-next l = l.size - l.at

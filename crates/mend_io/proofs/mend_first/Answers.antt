@@ -1,0 +1,17 @@
+-- `mend_io::mend_first` meets its contract: the frame is checked over the length read. Assumes nothing.
+use Prim.Native.Nat.{ℕ}
+use mathlib.Core.Path.{sym, ap, ◌∙◌}
+use Rattle.mend_io.specs.Steps.{number_end}
+use Rattle.mend_io.proofs.EndLaws.{mends-failed, mends-refused, mends-written}
+use borrow.Author.Rules.{rules}
+use Rattle.mend_io.proofs.mend_first.Goals as goal
+
+pub returns-in-Refused : goal.returns-in-Refused
+returns-in-Refused c =
+    let r = c in
+    let size = r.in-Bytes.size in
+    mends-refused _ _ (sym r.check.ensures ∙ r.in-Refused.is) (c.last-in-Refused.ensures ∙ ap (λ (n : ℕ). number_end 0 n size) c.code.ensures)
+
+pub returns-in-Accepted : goal.returns-in-Accepted
+returns-in-Accepted c = let t = c in
+    mends-written _ _ (sym t.check.ensures ∙ t.in-Accepted.is) c.write_second.ensures
