@@ -21,7 +21,7 @@ use Rattle.layout.specs.Contents.{packed_byte, packed, edited_byte, edited, read
 use Rattle.layout.specs.Calls.{pack_answer, pack_buffer}
 use Rattle.integers.specs.Saturate.{saturate, beyond}
 use Rattle.pixels.specs.Formats.{format_table, format_in, format_of}
-use Rattle.pixels.specs.Settings.{kind_valid, strides_valid as pixelStrides, setting_checks, pixel_position}
+use Rattle.pixels.specs.Settings.{kind_valid, strides_valid as pixel_strides, setting_checks, pixel_position}
 use Rattle.quantize.specs.Quantize.{lowest, highest, quantize_checks, nearest_of, nearest, rounded, quantized, limited}
 use Rattle.regions.specs.Slots.{rectangle, filled, slot_of, slots_of, empty_slots, rectangle_has, occupied, any_from, overlaps, rectangle_inside}
 use Rattle.regions.specs.Rules.{slot_at, is_filled, rectangle_of, id_of, place_checks, box_in_rectangle, slot_checks, region_box_checks, read_checks, edit_checks, release_checks}
@@ -170,7 +170,7 @@ pub record Pictured : Type 0 where
   pub float_edited : (plain_at plain_floats 7).state.raw ≡ negsuc 1023 ∷ pos 31744 ∷ []
 
 pub computed : Computed
-unfolding require_at in_order leaves element_bytes byte_of word_at signed element_at remade_from remade tabulate_from tabulate is_nan value_check value_checks_from value_checks element_count raw_index surfaces element_position cube_extent box_count span_inside span_has box_has box_index channel_at row_at column_at size_valid sizes_valid whole_atoms strides_valid layout_checks storage_checks cube_checks surface_of row_of column_of byte_in_atom in_atom atom_owner owner packed_byte packed edited_byte edited read_element box_elements pack_answer pack_buffer slot_of slots_of rectangle_has occupied any_from overlaps rectangle_inside slot_at is_filled rectangle_of id_of place_checks box_in_rectangle slot_checks region_box_checks read_checks edit_checks release_checks place_answer place_table edit_answer edit_buffer read_answer read_elements release_answer release_table release_buffer saturate beyond format_table format_in format_of kind_valid pixelStrides setting_checks pixel_position lowest highest quantize_checks nearest_of nearest rounded quantized limited component_bytes component_value component_at component painted_elements total held_one pixel_held row_held held_count kind_taken image_end fills_rectangle picture_checks target_checks paint_checks paint_answer paint_buffer step program calls paintings.calls floats.calls
+unfolding require_at in_order leaves element_bytes byte_of word_at signed element_at remade_from remade tabulate_from tabulate is_nan value_check value_checks_from value_checks element_count raw_index surfaces element_position cube_extent box_count span_inside span_has box_has box_index channel_at row_at column_at size_valid sizes_valid whole_atoms strides_valid layout_checks storage_checks cube_checks surface_of row_of column_of byte_in_atom in_atom atom_owner owner packed_byte packed edited_byte edited read_element box_elements pack_answer pack_buffer slot_of slots_of rectangle_has occupied any_from overlaps rectangle_inside slot_at is_filled rectangle_of id_of place_checks box_in_rectangle slot_checks region_box_checks read_checks edit_checks release_checks place_answer place_table edit_answer edit_buffer read_answer read_elements release_answer release_table release_buffer saturate beyond format_table format_in format_of kind_valid pixel_strides setting_checks pixel_position lowest highest quantize_checks nearest_of nearest rounded quantized limited component_bytes component_value component_at component painted_elements total held_one pixel_held row_held held_count kind_taken image_end fills_rectangle picture_checks target_checks paint_checks paint_answer paint_buffer step program calls paintings.calls floats.calls
 computed =
     record {
       packing = refl;
@@ -205,7 +205,7 @@ computed =
     }
 
 pub pictured : Pictured
-unfolding require_at in_order leaves element_bytes byte_of word_at signed element_at remade_from remade tabulate_from tabulate is_nan value_check value_checks_from value_checks element_count raw_index surfaces element_position cube_extent box_count span_inside span_has box_has box_index channel_at row_at column_at size_valid sizes_valid whole_atoms strides_valid layout_checks storage_checks cube_checks surface_of row_of column_of byte_in_atom in_atom atom_owner owner packed_byte packed edited_byte edited read_element box_elements pack_answer pack_buffer slot_of slots_of rectangle_has occupied any_from overlaps rectangle_inside slot_at is_filled rectangle_of id_of place_checks box_in_rectangle slot_checks region_box_checks read_checks edit_checks release_checks empty_slots saturate beyond format_table format_in format_of kind_valid pixelStrides setting_checks pixel_position lowest highest quantize_checks nearest_of nearest rounded quantized limited component_bytes component_value component_at component painted_elements total held_one pixel_held row_held held_count kind_taken image_end fills_rectangle picture_checks target_checks paint_checks box_written box_read plain_answer plain_step model calls paintings.calls floats.calls
+unfolding require_at in_order leaves element_bytes byte_of word_at signed element_at remade_from remade tabulate_from tabulate is_nan value_check value_checks_from value_checks element_count raw_index surfaces element_position cube_extent box_count span_inside span_has box_has box_index channel_at row_at column_at size_valid sizes_valid whole_atoms strides_valid layout_checks storage_checks cube_checks surface_of row_of column_of byte_in_atom in_atom atom_owner owner packed_byte packed edited_byte edited read_element box_elements pack_answer pack_buffer slot_of slots_of rectangle_has occupied any_from overlaps rectangle_inside slot_at is_filled rectangle_of id_of place_checks box_in_rectangle slot_checks region_box_checks read_checks edit_checks release_checks empty_slots saturate beyond format_table format_in format_of kind_valid pixel_strides setting_checks pixel_position lowest highest quantize_checks nearest_of nearest rounded quantized limited component_bytes component_value component_at component painted_elements total held_one pixel_held row_held held_count kind_taken image_end fills_rectangle picture_checks target_checks paint_checks box_written box_read plain_answer plain_step model calls paintings.calls floats.calls
 pictured =
     record {
       answers = refl;

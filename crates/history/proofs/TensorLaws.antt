@@ -1,6 +1,6 @@
 -- The raw tensor and its packed buffer say the same: writing elements at a box and packing is packing and writing the box, and the box's elements
 -- are the raw tensor's. By cases on a byte's owner, and index by index. Assumes nothing.
---     box_written-length, boxWritten-at     the raw tensor after elements were written at a box
+--     box_written-length, box_written-at     the raw tensor after elements were written at a box
 --     packed-boxWritten                    the commuting law
 --     Fits, checked-fits, box_written-fits   every element is one that the precision takes, and fits its bytes
 --     packed-box_read                       what a box of the packed buffer reads
@@ -58,10 +58,10 @@ module _ (q : CubeLayout) (box : ElementBox) (xs raw : List ℤ) where
   box_written-entry i hi = get_or-remade new raw i (pos 0) hi
 
   module _ (long : length raw ≡ element_count q) where
-    pub boxWritten-at : (c h w : ℕ) → InCube q c h w
+    pub box_written-at : (c h w : ℕ) → InCube q c h w
         → get_or (box_written q box xs raw) (raw_index q c h w) (pos 0) ≡ cond (box_has box c h w) (get_or xs (box_index box c h w) (pos 0)) (get_or raw (raw_index q c h w) (pos 0))
     unfolding new
-    boxWritten-at c h w i =
+    box_written-at c h w i =
         let b = whole_box q in
         let inb = whole_in q c h w i.channel_lt i.row_lt i.column_lt in
         let j = box_index b c h w in
@@ -81,7 +81,7 @@ module _ (q : CubeLayout) (box : ElementBox) (xs raw : List ℤ) where
       written-view : (p old : ℕ) {o : Owner} → View q p o → packed_byte q (box_written q box xs raw) o old ≡ edited_byte box xs o (packed_byte q raw o old)
       unfolding packed_byte edited_byte
       written-view p old (is_element c h w b hc hh hw hb i) =
-          ap (λ (z : ℤ). byte_of z b) (boxWritten-at c h w (record { channel_lt = hc; row_lt = hh; column_lt = hw }))
+          ap (λ (z : ℤ). byte_of z b) (box_written-at c h w (record { channel_lt = hc; row_lt = hh; column_lt = hw }))
           ∙ byte-of (box_has box c h w) (get_or xs (box_index box c h w) (pos 0)) (get_or raw (raw_index q c h w) (pos 0)) b
       written-view p old (padding_is s h w k hs hh hw hk past i) = refl
       written-view p old (is_outside none) = refl

@@ -3,7 +3,7 @@
 --     owner-before .. owner-column     bytes of no atom
 --     surface_of-lt                     a byte of the extent is in a surface of the cube
 --     owner-atom, atom_owner-element    bytes of an atom
---     in_extent-before .. inExtent-true     the start and the extent
+--     in_extent-before .. in_extent-true     the start and the extent
 use Prim.Native.Nat.{ℕ, ◌+◌, ◌-◌, ◌*◌, ◌/◌, ◌%◌, ◌≤◌, ◌<◌}
 use native.Mathlib.Nat.{div-lt_iff_lt-mul}
 use native.Mathlib.Omega.{arith}
@@ -76,10 +76,10 @@ module _ (q : CubeLayout) (p : ℕ) where
   in_extent-before h = rw (lt-leb q.start p h)
 
   module _ (from : q.start ≤ p) where
-    pub inExtent-past : q.start + cube_extent q ≤ p → in_extent q p ≡ false
+    pub in_extent-past : q.start + cube_extent q ≤ p → in_extent q p ≡ false
     unfolding in_extent
-    inExtent-past h = rw (le-leb q.start p from, le-ltb p (q.start + cube_extent q) h)
+    in_extent-past h = rw (le-leb q.start p from, le-ltb p (q.start + cube_extent q) h)
 
-    pub inExtent-true : p < q.start + cube_extent q → in_extent q p ≡ true
+    pub in_extent-true : p < q.start + cube_extent q → in_extent q p ≡ true
     unfolding in_extent
-    inExtent-true h = rw (le-leb q.start p from, lt-ltb p (q.start + cube_extent q) h)
+    in_extent-true h = rw (le-leb q.start p from, lt-ltb p (q.start + cube_extent q) h)

@@ -1,8 +1,8 @@
 -- The first part of a text, and the parts behind it, over the separator. By induction on the text. Assumes nothing.
 --     part_length-le                       it ends in the text
 --     split-first                         a text's parts: the first, and those behind it
---     partLength-end, -at, -other         at the end, at a separator, at another byte
---     partsBehind-end                     no part is left
+--     part_length-end, -at, -other         at the end, at a separator, at another byte
+--     parts_behind-end                     no part is left
 --     part-whole                          the part of a text from a byte to the end
 --     NextPart, next-at, next-part        the part after a separator, and those behind it
 use Prim.Native.Nat.{ℕ, zero, suc, ◌+◌, ◌-◌, ◌≤◌, ◌<◌, zero-le, suc-le-suc}
@@ -49,23 +49,23 @@ module _ (s : ℕ) where
   -- ---- at a byte
 
   module _ (text : List ℕ) (i : ℕ) where
-    pub partLength-end : length text ≤ i → part_length s (drop i text) ≡ 0
+    pub part_length-end : length text ≤ i → part_length s (drop i text) ≡ 0
     unfolding part_length
-    partLength-end h = ap (part_length s) (drop_of_length-le text h)
+    part_length-end h = ap (part_length s) (drop_of_length-le text h)
 
-    pub partLength-at : i < length text → get_or text i 0 ≡ s → part_length s (drop i text) ≡ 0
+    pub part_length-at : i < length text → get_or text i 0 ≡ s → part_length s (drop i text) ≡ 0
     unfolding part_length
-    partLength-at h e = rw (drop-cons text i 0 h, eq-eqb (get_or text i 0) s e)
+    part_length-at h e = rw (drop-cons text i 0 h, eq-eqb (get_or text i 0) s e)
 
-    pub partLength-other : i < length text → (get_or text i 0 ≡ s → ⊥) → part_length s (drop i text) ≡ suc (part_length s (drop (i + 1) text))
+    pub part_length-other : i < length text → (get_or text i 0 ≡ s → ⊥) → part_length s (drop i text) ≡ suc (part_length s (drop (i + 1) text))
     unfolding part_length
-    partLength-other h e = rw (drop-cons text i 0 h, ne_eqb (get_or text i 0) s e, add-one i)
+    part_length-other h e = rw (drop-cons text i 0 h, ne_eqb (get_or text i 0) s e, add-one i)
 
     -- ---- the parts behind
 
-    pub partsBehind-end : length text ≤ i → parts_behind s (drop i text) ≡ []
+    pub parts_behind-end : length text ≤ i → parts_behind s (drop i text) ≡ []
     unfolding parts_behind
-    partsBehind-end h = ap (parts_behind s) (drop_of_length-le text h)
+    parts_behind-end h = ap (parts_behind s) (drop_of_length-le text h)
 
     behind-at : i < length text → parts_behind s (drop i text) ≡ split s (drop (i + 1) text)
     unfolding parts_behind

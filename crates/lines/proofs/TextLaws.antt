@@ -39,13 +39,13 @@ module _ (s t : List ℕ) (i : ℕ) where
   same_text-end h k = rw (drop_of_length-le s {i = i} h, drop_of_length-le t {i = i} k)
 
   module _ (h : i < length s) (k : i < length t) where
-    pub sameText-other : (get_or s i 0 ≡ get_or t i 0 → ⊥) → same_text (drop i s) (drop i t) ≡ false
+    pub same_text-other : (get_or s i 0 ≡ get_or t i 0 → ⊥) → same_text (drop i s) (drop i t) ≡ false
     unfolding same_text
-    sameText-other e = rw (drop-cons s i 0 h, drop-cons t i 0 k, ne_eqb (get_or s i 0) (get_or t i 0) e)
+    same_text-other e = rw (drop-cons s i 0 h, drop-cons t i 0 k, ne_eqb (get_or s i 0) (get_or t i 0) e)
 
-    pub sameText-next : get_or s i 0 ≡ get_or t i 0 → same_text (drop i s) (drop i t) ≡ same_text (drop (i + 1) s) (drop (i + 1) t)
+    pub same_text-next : get_or s i 0 ≡ get_or t i 0 → same_text (drop i s) (drop i t) ≡ same_text (drop (i + 1) s) (drop (i + 1) t)
     unfolding same_text
-    sameText-next e = rw (drop-cons s i 0 h, drop-cons t i 0 k, eq-eqb (get_or s i 0) (get_or t i 0) e, add-one i)
+    same_text-next e = rw (drop-cons s i 0 h, drop-cons t i 0 k, eq-eqb (get_or s i 0) (get_or t i 0) e, add-one i)
 
 pub well_begun-none : (text : List ℕ) → length text ≡ 0 → well_begun text ≡ false
 unfolding well_begun

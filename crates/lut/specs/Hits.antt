@@ -27,11 +27,11 @@ exponential_index offset d = nat_abs (pos (log_below 32 d) -ℤ offset)
 
 -- the first of a hit's two entries, in the X table
 unfoldable pub index_x : XSettings → ℤ → ℕ
-index_x s x = byMode s.mode
+index_x s x = by_mode s.mode
   where
-    byMode : XMode → ℕ
-    byMode (Linear select) = linear_index 64 select (nat_abs (x -ℤ s.start))
-    byMode (Exponential offset) = exponential_index offset (nat_abs (x -ℤ s.start))
+    by_mode : XMode → ℕ
+    by_mode (Linear select) = linear_index 64 select (nat_abs (x -ℤ s.start))
+    by_mode (Exponential offset) = exponential_index offset (nat_abs (x -ℤ s.start))
 
 -- and in the Y table
 unfoldable pub index_y : YSettings → ℤ → ℕ

@@ -25,11 +25,11 @@ pair_of b x = 3 * side_of b.x x + side_of b.y x
 
 -- the first sample that is not below X
 unfoldable pub first_x : XSettings → ℤ
-first_x s = byMode s.mode
+first_x s = by_mode s.mode
   where
-    byMode : XMode → ℤ
-    byMode (Linear select) = s.start
-    byMode (Exponential offset) = s.start +ℤ pos (2 ^ up offset)
+    by_mode : XMode → ℤ
+    by_mode (Linear select) = s.start
+    by_mode (Exponential offset) = s.start +ℤ pos (2 ^ up offset)
 
 -- the spans of both tables
 unfoldable pub bounds_of : LutSettings → Bounds

@@ -89,11 +89,11 @@ linear_rows t base last =
 
 -- the rows of the X table, its points from 258 on
 unfoldable pub rows_x : XSettings → TableRows
-rows_x s = byMode s.mode
+rows_x s = by_mode s.mode
   where
-    byMode : XMode → TableRows
-    byMode (Linear select) = linear_rows (linear_x s select) 258 64
-    byMode (Exponential offset) =
+    by_mode : XMode → TableRows
+    by_mode (Linear select) = linear_rows (linear_x s select) 258 64
+    by_mode (Exponential offset) =
         record {
           below = slope_row s.start s.below.shift 323;
           hit = power_row s.start offset;

@@ -16,7 +16,7 @@ use lib.Seq.{slice, take-nil}
 use borrow.Author.Tests.{le-leb, lt-leb, eq-eqb, ne_eqb}
 use Rattle.layout.specs.declared.CubeLayout.{CubeLayout}
 use Rattle.lines.specs.Texts.{split, fields_of, part_length, parts_behind, same_text}
-use Rattle.lines.proofs.SplitLaws.{part_length-le, split-first, partsBehind-end}
+use Rattle.lines.proofs.SplitLaws.{part_length-le, split-first, parts_behind-end}
 use Rattle.records.specs.declared.Record.{Record}
 use Rattle.records.specs.declared.Record.TheVariants.{Frame, Stall, Cell, Leave, Unreadable}
 use Rattle.mend_text.specs.Requests.{unreadable, mending, is_name, with_names}
@@ -48,7 +48,7 @@ module _ (line : List ℕ) where
       let n = part_length 9 line in
       let within = part_length-le 9 line in
       elim (dec_le (length line) n) [
-        | yes h ↦ eq-eqb (length (fields_of line)) 1 (fields-count ∙ ap (λ (l : List (List ℕ)). suc (length l)) (partsBehind-end 9 line n h)) ∙ sym (eq-eqb n (length line) (omega arith))
+        | yes h ↦ eq-eqb (length (fields_of line)) 1 (fields-count ∙ ap (λ (l : List (List ℕ)). suc (length l)) (parts_behind-end 9 line n h)) ∙ sym (eq-eqb n (length line) (omega arith))
         | no f ↦ ne_eqb (length (fields_of line)) 1 (λ e. omega (arith, fields-count, behind-some (drop n line) (omega (arith, length-drop n line))))
             ∙ sym (ne_eqb n (length line) (λ e. f (omega arith)))
       ]

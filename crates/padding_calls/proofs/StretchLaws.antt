@@ -114,27 +114,27 @@ module _ (q : CubeLayout) (ok : Valid q) where
     abbrev row : ℕ
     row = (p - base) / q.line
 
-    abbrev rowStart : ℕ
-    rowStart = p - (p - base) % q.line
+    abbrev row_start : ℕ
+    row_start = p - (p - base) % q.line
 
     pub line-pos : 0 < q.line
     line-pos = omega (arith, ok.line_ge, ok.width_pos)
 
-    pub rowStart-is : rowStart ≡ last_surface q + row * q.line
-    rowStart-is = omega (arith, div-add-mod' (p - base) q.line, from, is)
+    pub row_start-is : row_start ≡ last_surface q + row * q.line
+    row_start-is = omega (arith, div-add-mod' (p - base) q.line, from, is)
 
     pub in-row-le : (p - base) % q.line ≤ p
     in-row-le = omega (arith, div-add-mod' (p - base) q.line)
 
-    pub in-line : p < rowStart + q.line
-    in-line = omega (arith, mod-lt (p - base) line-pos, rowStart-is, div-add-mod' (p - base) q.line, is)
+    pub in-line : p < row_start + q.line
+    in-line = omega (arith, mod-lt (p - base) line-pos, row_start-is, div-add-mod' (p - base) q.line, is)
 
-    pub row_fits : q.start < 2 ^ 32 → q.surface < 2 ^ 32 → q.line < 2 ^ 32 → row < q.height → rowStart + q.line < 2 ^ 64
+    pub row_fits : q.start < 2 ^ 32 → q.surface < 2 ^ 32 → q.line < 2 ^ 32 → row < q.height → row_start + q.line < 2 ^ 64
     unfolding last_surface
     row_fits hs hf hl hr =
         let a : (surfaces q - 1) * q.surface ≤ 512 * 2 ^ 32 = mul-le-mul {n₂ = 512} {m₂ = 2 ^ 32} (omega (arith, surfaces-le q ok)) (omega (arith, hf)) in
         let b : row * q.line ≤ 8192 * 2 ^ 32 = mul-le-mul {n₂ = 8192} {m₂ = 2 ^ 32} (omega (arith, hr, ok.height_le)) (omega (arith, hl)) in
-        omega (arith, rowStart-is, a, b, hs, hl)
+        omega (arith, row_start-is, a, b, hs, hl)
 
     pub past-rows : (end : ℕ) → p < end → q.height ≤ row → IsStretch q p (record { end = end; atoms = false })
     past-rows end h hr =
@@ -142,7 +142,7 @@ module _ (q : CubeLayout) (ok : Valid q) where
           onward = h;
           owners =
               λ x hp hx. no-padding x
-              (λ b. omega (arith, row-end x b, hp, rowStart-is, mul-le-mul_right {m = suc b.h} {n = row} q.line (omega (arith, b.row_lt, hr))));
+              (λ b. omega (arith, row-end x b, hp, row_start-is, mul-le-mul_right {m = suc b.h} {n = row} q.line (omega (arith, b.row_lt, hr))));
         }
 
     base-whole : last_surface q % 32 ≡ 0
@@ -153,13 +153,13 @@ module _ (q : CubeLayout) (ok : Valid q) where
     byte-is : (x h t : ℕ) → x ≡ last_surface q + h * q.line + t → x % 32 ≡ t % 32
     byte-is x h t e = omega (arith, e, base-whole, times-whole h q.line ok.line_atoms)
 
-    pub in-atoms : row < q.height → p < rowStart + 32 * q.width → IsStretch q p (record { end = rowStart + 32 * q.width; atoms = true })
+    pub in-atoms : row < q.height → p < row_start + 32 * q.width → IsStretch q p (record { end = row_start + 32 * q.width; atoms = true })
     in-atoms hr h = record { onward = h; owners = λ x hp hx. elim (dec_le (elements_end q) (x % 32)) [ yes g ↦ some x hp hx g | no g ↦ none x g ] }
       where
-        some : (x : ℕ) → p ≤ x → x < rowStart + 32 * q.width → elements_end q ≤ x % 32 → is_padding (owner q x) ≡ leb (elements_end q) (x % 32)
+        some : (x : ℕ) → p ≤ x → x < row_start + 32 * q.width → elements_end q ≤ x % 32 → is_padding (owner q x) ≡ leb (elements_end q) (x % 32)
         some x hp hx g =
-            let d = x - rowStart in
-            let at : x ≡ last_surface q + row * q.line + d = omega (arith, hp, rowStart-is) in
+            let d = x - row_start in
+            let at : x ≡ last_surface q + row * q.line + d = omega (arith, hp, row_start-is) in
             some-padding x
             (record {
               h = row;
@@ -178,15 +178,15 @@ module _ (q : CubeLayout) (ok : Valid q) where
             no-padding x (λ b. g (omega (arith, b.past, b.byte_lt, byte-is x b.h (32 * b.w + b.k) (omega (arith, b.place)))))
             ∙ sym (lt-leb (elements_end q) (x % 32) (omega (arith, g)))
 
-    pub in-gap : rowStart + 32 * q.width ≤ p → IsStretch q p (record { end = rowStart + q.line; atoms = false })
+    pub in-gap : row_start + 32 * q.width ≤ p → IsStretch q p (record { end = row_start + q.line; atoms = false })
     in-gap h = record { onward = in-line; owners = λ x hp hx. no-padding x (λ b. none x hp hx b) }
       where
-        none : (x : ℕ) → p ≤ x → x < rowStart + q.line → LastByte x → ⊥
+        none : (x : ℕ) → p ≤ x → x < row_start + q.line → LastByte x → ⊥
         none x hp hx b =
             let t = 32 * b.w + b.k in
-            let d = x - rowStart in
+            let d = x - row_start in
             let below : t < 32 * q.width = omega (arith, b.byte_lt, b.column_lt) in
-            let at : x ≡ last_surface q + row * q.line + d = omega (arith, hp, h, rowStart-is) in
+            let at : x ≡ last_surface q + row * q.line + d = omega (arith, hp, h, row_start-is) in
             let same : row * q.line + d ≡ b.h * q.line + t = omega (arith, at, b.place) in
             let rows : row ≡ b.h =
             sym (digits_div row {m = q.line} {r = d} (omega (arith, hx))) ∙ ap (λ (n : ℕ). n / q.line) same ∙ digits_div b.h {m = q.line} {r = t} (omega (arith, below, ok.line_ge)) in

@@ -22,7 +22,7 @@ use Rattle.layout.specs.Owners.{surface_of, row_of, column_of, byte_in_atom, in_
 use Rattle.layout.specs.Contents.{edited_byte, edited}
 use Rattle.pixels.specs.declared.PixelSetting.{PixelSetting}
 use Rattle.pixels.specs.Formats.{format_table, format_in, format_of}
-use Rattle.pixels.specs.Settings.{kind_valid, strides_valid as linesValid, setting_checks, pixel_position}
+use Rattle.pixels.specs.Settings.{kind_valid, strides_valid as lines_valid, setting_checks, pixel_position}
 use Rattle.quantize.specs.Quantize.{lowest, highest, quantize_checks, nearest_of, nearest, rounded, quantized, limited}
 use Rattle.regions.specs.declared.RegionTable.{RegionTable}
 use Rattle.regions.specs.Slots.{rectangle, slot_of, slots_of, rectangle_has, occupied, any_from, overlaps, rectangle_inside}
@@ -153,7 +153,7 @@ pub record Computed : Type 0 where
       ≡ 25 ∷ 9 ∷ 25 ∷ 9 ∷ 9 ∷ 5 ∷ []
 
 pub computed : Computed
-unfolding require_at in_order leaves result size_valid element_bytes byte_of word_at signed remade_from remade tabulate_from tabulate saturate beyond surfaces cube_extent box_count span_inside span_has box_has box_index channel_at row_at column_at sizes_valid whole_atoms strides_valid layout_checks surface_of row_of column_of byte_in_atom in_atom atom_owner owner edited_byte edited format_table format_in format_of kind_valid linesValid setting_checks pixel_position lowest highest quantize_checks nearest_of nearest rounded quantized limited slot_of slots_of rectangle_has occupied any_from overlaps rectangle_inside slot_at is_filled rectangle_of id_of place_checks box_in_rectangle slot_checks region_box_checks place_answer place_table component_bytes component_value component_at component painted_elements total held_one pixel_held row_held held_count kind_taken image_end fills_rectangle picture_checks target_checks paint_checks paint_answer paint_held paint_buffer
+unfolding require_at in_order leaves result size_valid element_bytes byte_of word_at signed remade_from remade tabulate_from tabulate saturate beyond surfaces cube_extent box_count span_inside span_has box_has box_index channel_at row_at column_at sizes_valid whole_atoms strides_valid layout_checks surface_of row_of column_of byte_in_atom in_atom atom_owner owner edited_byte edited format_table format_in format_of kind_valid lines_valid setting_checks pixel_position lowest highest quantize_checks nearest_of nearest rounded quantized limited slot_of slots_of rectangle_has occupied any_from overlaps rectangle_inside slot_at is_filled rectangle_of id_of place_checks box_in_rectangle slot_checks region_box_checks place_answer place_table component_bytes component_value component_at component painted_elements total held_one pixel_held row_held held_count kind_taken image_end fills_rectangle picture_checks target_checks paint_checks paint_answer paint_held paint_buffer
 computed =
     record {
       painted = refl;

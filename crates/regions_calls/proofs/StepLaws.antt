@@ -4,7 +4,7 @@
 --     number_past, filled_is, vacant-is     the tests of a slot, from its number and its flag
 --     rectangle-is, owner-is                the rectangle and the id of a filled slot are the struct's
 --     row_fits, column_fits                 the corner of a box in a rectangle of a valid layout
---     box_in-region .. boxIn-at              a box in a rectangle, test after test
+--     box_in-region .. box_in-at              a box in a rectangle, test after test
 --     found_box-slot .. found_part-in         a box in a region, and a part of it, test after test
 --     refused-of, at_of                     what a result tells
 --     found-refused, found_at               what a box found tells
@@ -106,13 +106,13 @@ module _ (q : CubeLayout) (g : Rectangle) (b : ElementBox) where
   box_in-region e = rw e
 
   module _ (inside : rectangle_inside q g ≡ true) where
-    pub boxIn-box : box_in_rectangle q g b ≡ false → NotFound Bounds 0 ≡ box_in q g b
+    pub box_in-box : box_in_rectangle q g b ≡ false → NotFound Bounds 0 ≡ box_in q g b
     unfolding box_in result in_order require_at
-    boxIn-box e = rw (inside, e)
+    box_in-box e = rw (inside, e)
 
-    pub boxIn-at : box_in_rectangle q g b ≡ true → At (cube_box g b) ≡ box_in q g b
+    pub box_in-at : box_in_rectangle q g b ≡ true → At (cube_box g b) ≡ box_in q g b
     unfolding box_in result in_order require_at
-    boxIn-at e = rw (inside, e)
+    box_in-at e = rw (inside, e)
 
 -- ---- a box in a region
 pub refused-of : (a : Answer) (v : ElementBox) {r : Refusal} {i : ℕ} → result At NotFound a v ≡ NotFound r i → a ≡ Refused r i

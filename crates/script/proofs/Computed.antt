@@ -12,7 +12,7 @@ use Rattle.layout.specs.Geometry.{layout_of, surfaces, element_position, cube_ex
 use Rattle.layout.specs.Boxes.{box_count, span_inside, span_has}
 use Rattle.layout.specs.Rules.{sizes_valid, whole_atoms, strides_valid, layout_checks}
 use Rattle.lines.specs.Texts.{before, split, fields_of, without_empty_last, lines_of, part_length, same_text}
-use Rattle.lines.specs.Numbers.{is_digit, all_digits, value_after as digitsAfter, is_empty, well_begun, number_of, and_number, listed, in_table, numbers_of}
+use Rattle.lines.specs.Numbers.{is_digit, all_digits, value_after as digits_after, is_empty, well_begun, number_of, and_number, listed, in_table, numbers_of}
 use Rattle.lines.specs.Digits.{leading_in, digits, numeral}
 use Rattle.lines.specs.Collecting.{with_byte, added, line_text, next_lines, collected}
 use Rattle.records.specs.declared.Record.{Record}
@@ -152,7 +152,7 @@ pub record Computed : Type 0 where
   pub none : printed [] ≡ []
 
 pub computed : Computed
-unfolding require_at in_order leaves element_bytes surfaces element_position cube_extent box_count span_inside span_has size_valid sizes_valid whole_atoms strides_valid layout_checks slot_of slots_of rectangle_has occupied any_from overlaps rectangle_inside slot_at is_filled rectangle_of id_of place_checks box_in_rectangle slot_checks region_box_checks place_answer place_table before split fields_of without_empty_last lines_of part_length same_text is_digit all_digits digitsAfter is_empty well_begun number_of and_number listed in_table numbers_of with_byte added line_text next_lines collected is_named by_word by_fields record_of line_record framed_or record_answer record_value record_done value_after desk_after row_of rows_after sheet start_sheet line_ended line_row fed finished and_then part_fed rows_of_parts output row_text fields_text digits leading_in numeral flatten
+unfolding require_at in_order leaves element_bytes surfaces element_position cube_extent box_count span_inside span_has size_valid sizes_valid whole_atoms strides_valid layout_checks slot_of slots_of rectangle_has occupied any_from overlaps rectangle_inside slot_at is_filled rectangle_of id_of place_checks box_in_rectangle slot_checks region_box_checks place_answer place_table before split fields_of without_empty_last lines_of part_length same_text is_digit all_digits digits_after is_empty well_begun number_of and_number listed in_table numbers_of with_byte added line_text next_lines collected is_named by_word by_fields record_of line_record framed_or record_answer record_value record_done value_after desk_after row_of rows_after sheet start_sheet line_ended line_row fed finished and_then part_fed rows_of_parts output row_text fields_text digits leading_in numeral flatten
 computed =
     record {
       bytes = refl;

@@ -2,7 +2,7 @@
 -- s times the elements of an atom and k / e. Once over the element size. Assumes nothing.
 --     channel-at, byte_at      channel and byte of an atom's byte
 --     channel-before           it is before the last channel's end
---     atomByte-packed          the byte
+--     atom_byte-packed          the byte
 use Prim.Native.Nat.{ℕ, suc, ◌+◌, ◌-◌, ◌*◌, ◌/◌, ◌%◌}
 use native.Mathlib.Nat.{mul-le-mul_right, mod-lt, div-add-mod'}
 use native.Mathlib.Decide.{dec_lt}
@@ -59,9 +59,9 @@ module _ (q : CubeLayout) (s : ℕ) where
     unfolding raw_index
     channel-index n = omega arith
 
-    pub atomByte-packed : (k : ℕ) → atom_byte e (q.channels - c) (raw_index q c h w) (q.height * q.width) raw k ≡ packed_byte q raw (atom_owner q s h w k) 0
+    pub atom_byte-packed : (k : ℕ) → atom_byte e (q.channels - c) (raw_index q c h w) (q.height * q.width) raw k ≡ packed_byte q raw (atom_owner q s h w k) 0
     unfolding atom_byte packed_byte atom_owner
-    atomByte-packed k = rw (channel-before k, channel-at k, byte_at k) (go (ltb (k / e) (q.channels - c)))
+    atom_byte-packed k = rw (channel-before k, channel-at k, byte_at k) (go (ltb (k / e) (q.channels - c)))
       where
         go : (t : Bool)
             → cond t (byte_of (get_or raw (raw_index q c h w + k / e * (q.height * q.width)) (pos 0)) (k % e)) 0 ≡ packed_byte q raw (cond t (element (c + k / e) h w (k % e)) padding) 0

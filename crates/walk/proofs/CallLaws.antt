@@ -25,7 +25,7 @@ use Rattle.walk.specs.declared.Started.TheVariants.{Walking, Refused}
 use Rattle.walk.specs.declared.NextAtom.TheVariants.{At}
 use Rattle.walk.specs.Walks.{first_walk, walk_start, started_answer}
 use Rattle.walk.specs.Scans.{Told, step_told, InScan, atom_count, scan_index, scan_position, atom_told, steps_written, WholeWalk}
-use Rattle.walk.proofs.ScanLaws.{scan-at, scanPosition-own, told-atom, told_none}
+use Rattle.walk.proofs.ScanLaws.{scan-at, scan_position-own, told-atom, told_none}
 use Rattle.walk.proofs.WriteLaws.{all-written}
 
 module _ (q : CubeLayout) (raw : List ℤ) (len : ℕ) where
@@ -67,7 +67,7 @@ module _ (q : CubeLayout) (raw : List ℤ) (len : ℕ) where
               let here = ap (λ (m : ℕ). step_told m (first_walk q) raw) a.index in
               let both : At (scan_position q a.s a.h a.w) ≡ At (scan_position q s h w) =
               ap (λ (t : Told). t.atom) (sym (told a.s a.h a.w a.in_scan) ∙ here) ∙ e in
-              let same = scanPosition-own q ok a.s a.h a.w s h w a.in_scan i (cc) in
+              let same = scan_position-own q ok a.s a.h a.w s h w a.in_scan i (cc) in
               sym a.index ∙ rw (same.0, same.1, same.2)
           | no f ↦
               let none = ap (λ (t : Told). t.atom) (told_none q ok raw fits n (omega arith)) in

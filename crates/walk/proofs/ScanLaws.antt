@@ -2,7 +2,7 @@
 -- the last one nothing is left, and the walk stays. An atom's number in scan order is its raw order in a box of surfaces, rows and columns. Assumes nothing.
 --     scan_index-lt             an atom's number is below their count
 --     scan-at                  the atom that has a number
---     scanPosition-own         a position is one atom's
+--     scan_position-own         a position is one atom's
 --     told-atom, told_none     what step n tells
 use Prim.Native.Nat.{ℕ, zero, suc, ◌+◌, ◌-◌, ◌*◌, ◌^◌, ◌≤◌, ◌<◌}
 use native.Mathlib.Nat.{mul-le-mul}
@@ -27,7 +27,7 @@ use Rattle.walk.specs.declared.Step.{Step}
 use Rattle.walk.specs.declared.NextAtom.TheVariants.{At}
 use Rattle.walk.specs.Walks.{atom_bytes, first_walk, stride_of, moved, walk_step}
 use Rattle.walk.specs.Scans.{told_by, walk_after, step_told, InScan, atom_count, scan_index, ScanAt, scan_position, atom_told, none_told}
-use Rattle.walk.proofs.AtomLaws.{atomByte-packed}
+use Rattle.walk.proofs.AtomLaws.{atom_byte-packed}
 use Rattle.walk.proofs.WalkLaws.{Goes, step-atom, step-none, walk_of, walk_done, first_is, some-channel, next-column, next-line, next-surface, next-none}
 
 -- ---- numbers in scan order
@@ -63,8 +63,8 @@ module _ (q : CubeLayout) where
     unfolding atom_position
     scan-atom s h w = omega arith
 
-    pub scanPosition-own : (s h w s' h' w' : ℕ) → InScan q s h w → InScan q s' h' w' → scan_position q s h w ≡ scan_position q s' h' w' → (s ≡ s') × (h ≡ h') × (w ≡ w')
-    scanPosition-own s h w s' h' w' i i' e =
+    pub scan_position-own : (s h w s' h' w' : ℕ) → InScan q s h w → InScan q s' h' w' → scan_position q s h w ≡ scan_position q s' h' w' → (s ≡ s') × (h ≡ h') × (w ≡ w')
+    scan_position-own s h w s' h' w' i i' e =
         let at : atom_position q s h w 0 ≡ atom_position q s' h' w' 0 = sym (scan-atom s h w) ∙ e ∙ scan-atom s' h' w' in
         let z : 0 < 32 = omega arith in (
           sym (atom-surface q ok s h w 0 i.surface_lt i.row_lt i.column_lt z) ∙ ap (surface_of q) at ∙ atom-surface q ok s' h' w' 0 i'.surface_lt i'.row_lt i'.column_lt z,
@@ -94,7 +94,7 @@ module _ (q : CubeLayout) (ok : Valid q) (raw : List ℤ) (room : q.start + cube
   unfolding atom_told atom_bytes
   gives s h w i after g =
       ap told_by (step-atom (walk_of q s h w) raw after g)
-      ∙ ap (λ (l : List ℕ). record { atom = At (scan_position q s h w); bytes = l }) (tabulate-ext 0 32 _ _ (λ k lt. atomByte-packed q s raw h w k))
+      ∙ ap (λ (l : List ℕ). record { atom = At (scan_position q s h w); bytes = l }) (tabulate-ext 0 32 _ _ (λ k lt. atom_byte-packed q s raw h w k))
 
   -- the walk before the first atom
   abbrev first : Walk

@@ -6,7 +6,7 @@ use native.Mathlib.Omega.{arith}
 use borrow.Author.Rules.{rules}
 use lib.ListN.{drop}
 use Rattle.lines.specs.Texts.{part_length, parts_behind}
-use Rattle.lines.proofs.SplitLaws.{partsBehind-end, NextPart, next-at, next-part}
+use Rattle.lines.proofs.SplitLaws.{parts_behind-end, NextPart, next-at, next-part}
 use Rattle.lines.proofs.TableLaws.{table_none, table-end, table-next, table-no-number, table-eighth}
 use Rattle.lines_calls.proofs.read_numbers.Goals as goal
 
@@ -48,4 +48,4 @@ pub returns : goal.returns
 returns c =
     let l = c.loop-at in
     let rest = c.args.rest.now in
-    table-end _ l.count l.values _ l.invariant.2 (partsBehind-end 9 rest l.at (omega arith)) l.invariant.1
+    table-end _ l.count l.values _ l.invariant.2 (parts_behind-end 9 rest l.at (omega arith)) l.invariant.1

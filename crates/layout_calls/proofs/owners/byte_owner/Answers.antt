@@ -5,7 +5,7 @@ use mathlib.Core.Bool.{Bool}
 use Rattle.layout.specs.Owners.{outside, owner}
 use Rattle.layout.specs.Whose.{in_extent, byte_owner}
 use Rattle.layout.proofs.Valid.{valid}
-use Rattle.layout.proofs.WhoseLaws.{owner-before, owner-past, in_extent-before, inExtent-past, inExtent-true}
+use Rattle.layout.proofs.WhoseLaws.{owner-before, owner-past, in_extent-before, in_extent-past, in_extent-true}
 use Rattle.layout_calls.proofs.owners.byte_owner.Goals as goal
 
 pub returns-then-position-layout : goal.returns-then-position-layout
@@ -21,10 +21,10 @@ returns-then-end-position c = let d = c in
     let q = d.args.layout in
     let p = d.args.position in
     let h = subst (λ (n : ℕ). n ≤ p) c.end.ensures c.if-end-position.true in
-    sym (ap (byte_owner (in_extent q p)) (owner-past q (valid q d.requires) p h) ∙ ap (λ (t : Bool). byte_owner t outside) (inExtent-past q p c.if-position-layout.false h))
+    sym (ap (byte_owner (in_extent q p)) (owner-past q (valid q d.requires) p h) ∙ ap (λ (t : Bool). byte_owner t outside) (in_extent-past q p c.if-position-layout.false h))
 
 pub returns : goal.returns
 returns c = let d = c in
     let q = d.args.layout in
     let p = d.args.position in
-    c.extent_owner.ensures ∙ sym (ap (λ (t : Bool). byte_owner t (owner q p)) (inExtent-true q p d.if-position-layout.false (subst (λ (n : ℕ). p < n) c.end.ensures c.if-end-position.false)))
+    c.extent_owner.ensures ∙ sym (ap (λ (t : Bool). byte_owner t (owner q p)) (in_extent-true q p d.if-position-layout.false (subst (λ (n : ℕ). p < n) c.end.ensures c.if-end-position.false)))

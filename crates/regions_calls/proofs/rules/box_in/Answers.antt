@@ -3,7 +3,7 @@ use native.Mathlib.Omega.{arith}
 use mathlib.Core.Path.{sym, ◌∙◌}
 use Rattle.layout.proofs.Valid.{valid}
 use Rattle.regions.proofs.RuleLaws.{bounds-valid}
-use Rattle.regions_calls.proofs.StepLaws.{row_fits, column_fits, box_in-region, boxIn-box, boxIn-at}
+use Rattle.regions_calls.proofs.StepLaws.{row_fits, column_fits, box_in-region, box_in-box, box_in-at}
 use Rattle.regions_calls.proofs.rules.box_in.Goals as goal
 
 pub returns-then-not-rectangle_inside : goal.returns-then-not-rectangle_inside
@@ -14,7 +14,7 @@ returns-then-not-rectangle_inside c =
 pub returns-then-not-box_inside : goal.returns-then-not-box_inside
 returns-then-not-box_inside c =
     let a = c.args in
-    boxIn-box a.layout a.g a.b (sym c.rectangle_inside.ensures ∙ c.if-not-rectangle_inside.false) (sym c.box_inside.ensures ∙ c.if-not-box_inside.true)
+    box_in-box a.layout a.g a.b (sym c.rectangle_inside.ensures ∙ c.if-not-rectangle_inside.false) (sym c.box_inside.ensures ∙ c.if-not-box_inside.true)
 
 pub overflow_add-moved : goal.overflow_add-moved
 overflow_add-moved c =
@@ -33,4 +33,4 @@ overflow_add-moved-2 c =
 pub returns : goal.returns
 returns c =
     let a = c.args in
-    boxIn-at a.layout a.g a.b (sym c.rectangle_inside.ensures ∙ c.if-not-rectangle_inside.false) (sym c.box_inside.ensures ∙ c.if-not-box_inside.false)
+    box_in-at a.layout a.g a.b (sym c.rectangle_inside.ensures ∙ c.if-not-rectangle_inside.false) (sym c.box_inside.ensures ∙ c.if-not-box_inside.false)
