@@ -31,10 +31,8 @@ returns-then-fit-block c =
     let b = c.args.block in
     let t = and-true c.fits-fit.result (leb b.count b.plane) c.if-fit-block.true in
     (fitting-of (sym c.fits-fit.ensures ∙ t.0), leb-true b.count b.plane t.1) in
-    let f = c in
-    let t = f in
-    let a = t.args in
-    f.read_strips.ensures ∙ sym (block-read a.block a.buffer.now a.elements.now fit.0 fit.1)
+    let a = c.args in
+    c.read_strips.ensures ∙ sym (block-read a.block a.buffer.now a.elements.now fit.0 fit.1)
 
 pub returns-else-fit-block : goal.returns-else-fit-block
 unfolding block_fits

@@ -19,10 +19,8 @@ write_strips-requires c =
 pub returns-then-fit : goal.returns-then-fit
 returns-then-fit c =
     let fit : let a = c.args in BlockFits a.block (length a.elements.now) (length a.buffer.now) = fitting-of (sym c.fits-fit.ensures ∙ c.if-fit.true) in
-    let f = c in
-    let t = f in
-    let a = t.args in
-    f.write_strips.ensures ∙ sym (block-written a.block a.elements.now a.buffer.now fit)
+    let a = c.args in
+    c.write_strips.ensures ∙ sym (block-written a.block a.elements.now a.buffer.now fit)
 
 pub returns-else-fit : goal.returns-else-fit
 unfolding block_fits

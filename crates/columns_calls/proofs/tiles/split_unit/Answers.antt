@@ -14,14 +14,12 @@ pub loop-i-init : goal.loop-i-init
 loop-i-init c = let a = c.args in (omega arith, columns-empty (pos 0) (unit_row a.e a.tile.now a.j) (3 - a.e) a.from a.plane a.elements.now)
 
 pub loop-i-preserved : goal.loop-i-preserved
-loop-i-preserved c = let f = c in
-    let l = f in
-    let s = l in
-    let a = s.args in
-    let i = l.loop-i.i in (
+loop-i-preserved c =
+    let a = c.args in
+    let i = c.loop-i.i in (
       omega arith,
       under-step (pos 0) (unit_row a.e a.tile.now a.j) (λ (r : ℕ) (b : ℕ). unit_element a.e (get_or a.tile.now (4 * i + a.j) 0) r) i 1 (3 - a.e) a.from a.plane (a.from + i) a.elements.now
-          (omega (arith, s.requires.le_e.4))
+          (omega (arith, c.requires.le_e.4))
           (λ r b hr hb. unit-row-at a.e a.tile.now a.j r i b hb)
-          refl l.loop-i.invariant.1 f.split_one.ensures,
+          refl c.loop-i.invariant.1 c.split_one.ensures,
     )

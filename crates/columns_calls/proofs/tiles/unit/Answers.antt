@@ -18,20 +18,20 @@ low_byte z w h = omega (arith, byte_of-lt z 0)
 
 pub returns-then-e-eq1 : goal.returns-then-e-eq1
 unfolding listed
-returns-then-e-eq1 c = let s = c in
-    let a = s.args in
+returns-then-e-eq1 c =
+    let a = c.args in
     let src : ℕ → ℤ = listed a.elements.now in
-    let x = low_byte (src a.at) c.word.result (c.word.ensures ∙ ap (λ (z : ℤ). byte_of z 0 + 256 * byte_of z 1) (to_z-of_z {w = w16} (sfits_of c.x-1.given))) in
-    let y = low_byte (src (a.at + a.plane)) c.word-then-e-eq1.result (c.word-then-e-eq1.ensures ∙ ap (λ (z : ℤ). byte_of z 0 + 256 * byte_of z 1) (to_z-of_z {w = w16} (sfits_of c.y-1.given))) in
+    let x = low_byte (src a.at) c.word.result (c.word.ensures ∙ ap (λ (z : ℤ). byte_of z 0 + 256 * byte_of z 1) (to_z-of_z {w = w16} (sfits_of (omega arith)))) in
+    let y = low_byte (src (a.at + a.plane)) c.word-then-e-eq1.result (c.word-then-e-eq1.ensures ∙ ap (λ (z : ℤ). byte_of z 0 + 256 * byte_of z 1) (to_z-of_z {w = w16} (sfits_of (omega arith)))) in
     omega (arith, x, y, unit-one src a.at a.plane, ap (λ (k : ℕ). column_unit k src a.at a.plane 0 0) c.if-e-eq1.true)
 
 pub returns : goal.returns
 unfolding listed
-returns c = let s = c in
-    let a = s.args in
+returns c =
+    let a = c.args in
     let src : ℕ → ℤ = listed a.elements.now in
-    let two : 2 ≡ a.e = omega (arith, s.requires.0, s.requires.1) in
+    let two : 2 ≡ a.e = omega (arith, c.requires.0, c.requires.1) in
     c.word-2.ensures
-    ∙ ap (λ (z : ℤ). byte_of z 0 + 256 * byte_of z 1) (to_z-of_z {w = w16} (sfits_of c.x-1.given))
+    ∙ ap (λ (z : ℤ). byte_of z 0 + 256 * byte_of z 1) (to_z-of_z {w = w16} (sfits_of (omega arith)))
     ∙ sym (unit-two src a.at a.plane)
     ∙ ap (λ (k : ℕ). column_unit k src a.at a.plane 0 0) two

@@ -11,12 +11,10 @@ pub loop-i-init : goal.loop-i-init
 loop-i-init c = let a = c.args in (omega arith, columns-none 0 (tile_byte 2 a.tile.now) 4 a.at a.stride a.buffer.now c.requires.1)
 
 pub loop-i-preserved : goal.loop-i-preserved
-loop-i-preserved c = let f = c in
-    let l = f in
-    let s = l in
-    let a = s.args in
-    let i = l.loop-i.i in (
+loop-i-preserved c =
+    let a = c.args in
+    let i = c.loop-i.i in (
       omega arith,
-      columns-step 0 (tile_byte 2 a.tile.now) 4 i a.at a.stride a.buffer.now s.requires.1 l.loop-i.invariant.1
-          (f.write_two.ensures ∙ tile-half a.tile.now i (a.at + a.stride * i) l.loop-i.buffer _ _ refl refl),
+      columns-step 0 (tile_byte 2 a.tile.now) 4 i a.at a.stride a.buffer.now c.requires.1 c.loop-i.invariant.1
+          (c.write_two.ensures ∙ tile-half a.tile.now i (a.at + a.stride * i) c.loop-i.buffer _ _ refl refl),
     )

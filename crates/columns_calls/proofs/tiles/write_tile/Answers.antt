@@ -13,17 +13,14 @@ pub loop-i-init : goal.loop-i-init
 loop-i-init c = let a = c.args in (omega arith, columns-none 0 (tile_byte 4 a.tile.now) 8 a.at a.stride a.buffer.now c.requires.1)
 
 pub loop-i-preserved : goal.loop-i-preserved
-loop-i-preserved c = let f2 = c in
-    let f1 = f2 in
-    let l = f1 in
-    let s = l in
-    let a = s.args in
+loop-i-preserved c =
+    let a = c.args in
     let t = a.tile.now in
-    let i = l.loop-i.i in
+    let i = c.loop-i.i in
     let p = a.at + a.stride * i in (
       omega arith,
-      columns-step 0 (tile_byte 4 t) 8 i a.at a.stride a.buffer.now s.requires.1 l.loop-i.invariant.1
-          (f2.write_two-in-loop-i.ensures
-          ∙ ap (λ (b : List ℕ). two_set (get_or t (4 * i + 2) 0) (get_or t (4 * i + 3) 0) (p + 4) b) f1.write_two.ensures
-          ∙ tile-bytes t i p l.loop-i.buffer _ _ _ _ refl refl refl refl),
+      columns-step 0 (tile_byte 4 t) 8 i a.at a.stride a.buffer.now c.requires.1 c.loop-i.invariant.1
+          (c.write_two-in-loop-i.ensures
+          ∙ ap (λ (b : List ℕ). two_set (get_or t (4 * i + 2) 0) (get_or t (4 * i + 3) 0) (p + 4) b) c.write_two.ensures
+          ∙ tile-bytes t i p c.loop-i.buffer _ _ _ _ refl refl refl refl),
     )

@@ -49,7 +49,7 @@ loop-j-preserved c =
     to_z-of_z {w = w16} (sfits_of c.element.type_inv)
     ∙ c.element.ensures
     ∙ ap (λ (n : ℕ). get_or a.elements.now n (pos 0)) c.loop-j.invariant.2
-    ∙ held-element a.elements.now (a.index + c.loop-j.j * a.plane) (omega (arith, c.well_formed)) in (
+    ∙ held-element a.elements.now (a.index + c.loop-j.j * a.plane) (omega arith) in (
       omega arith,
       omega (arith, c.loop-j.invariant.1, c.size-e.ensures),
       omega (arith, c.onward-i.ensures, c.loop-j.invariant.2),

@@ -13,12 +13,12 @@ returns-then-walk-gt1-2 c = rw (le-ltb 1 _ c.if-walk-gt1.false, lt-ltb 1 _ c.if-
 
 pub returns-then-full-walk : goal.returns-then-full-walk
 unfolding stride_of
-returns-then-full-walk c = let f = c in
-    let more = lt-ltb _ _ (rw f.full-full.ensures at c.if-full-walk.true) in
-    rw (f.full-full.ensures, le-ltb 1 _ f.if-walk-gt1.false, le-ltb 1 _ f.if-walk-gt1-2.false, more)
+returns-then-full-walk c =
+    let more = lt-ltb _ _ (rw c.full-full.ensures at c.if-full-walk.true) in
+    rw (c.full-full.ensures, le-ltb 1 _ c.if-walk-gt1.false, le-ltb 1 _ c.if-walk-gt1-2.false, more)
 
 pub returns : goal.returns
 unfolding stride_of
-returns c = let f = c in
-    let last = le-ltb _ _ (rw f.full-full.ensures at c.if-full-walk.false) in
-    rw (le-ltb 1 _ f.if-walk-gt1.false, le-ltb 1 _ f.if-walk-gt1-2.false, last)
+returns c =
+    let last = le-ltb _ _ (rw c.full-full.ensures at c.if-full-walk.false) in
+    rw (le-ltb 1 _ c.if-walk-gt1.false, le-ltb 1 _ c.if-walk-gt1-2.false, last)
