@@ -1,7 +1,6 @@
 -- `mend_io::check` meets its contract: the box check of the whole cube never refuses. Assumes nothing.
 use mathlib.Core.Path.{◌∙◌}
 use Rattle.mend_io.proofs.EndLaws.{room-checks}
-use borrow.Author.Rules.{rules}
 use Rattle.mend_io.proofs.check.Goals as goal
 
 pub returns : goal.returns

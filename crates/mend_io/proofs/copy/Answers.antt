@@ -1,13 +1,11 @@
 -- `mend_io::copy` meets its contract. The loop's invariant: the header and the reports of the parts so far are printed, and the buffers keep their lengths. The measure is what is left
 -- of the length read: a part has at least one byte, and ends within it. Assumes nothing.
-use Prim.Native.Nat.{◌-◌}
 use native.Mathlib.Omega.{arith}
-use mathlib.Core.Path.{◌≡◌, refl}
-use lib.ListN.{length}
+use mathlib.Core.Path.{refl}
 use borrow.Author.Rules.{rules}
 use borrow.Author.Tests.{not-true}
 use Rattle.mend_io.specs.Steps.{PartCopied}
-use Rattle.mend_io.proofs.CopyLaws.{Copying, copying-none, copying-more, copied-begun, copied-end, copied-failed, stepped-more, stepped-failed}
+use Rattle.mend_io.proofs.CopyLaws.{copying-none, copying-more, copied-begun, copied-end, copied-failed, stepped-more, stepped-failed}
 use Rattle.mend_io.proofs.copy.Goals as goal
 
 -- one part more
@@ -27,11 +25,11 @@ pub loop-next-smaller : goal.loop-next-smaller
 loop-next-smaller c = let p = part c in omega (arith, p.some, p.next, p.within)
 
 pub loop-next-preserved : goal.loop-next-preserved
-loop-next-preserved c = (copying-more _ _ _ c.loop-next.inv.0 (part c), search rules, search rules, search rules, search rules)
+loop-next-preserved c = (copying-more _ _ _ c.loop-next.invariant.0 (part c), search rules, search rules, search rules, search rules)
 
 pub returns-in-End : goal.returns-in-End
 returns-in-End c = let l = c in
-    copied-end _ _ _ l.loop-next.inv.0 _
+    copied-end _ _ _ l.loop-next.invariant.0 _
 
 pub returns-in-Failed : goal.returns-in-Failed
 returns-in-Failed c =

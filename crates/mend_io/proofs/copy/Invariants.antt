@@ -1,13 +1,9 @@
 -- `mend_io::copy` meets its contract. The loop's invariant: the header and the reports of the parts so far are printed, and the buffers keep their lengths. The measure is what is left
 -- of the length read: a part has at least one byte, and ends within it. Assumes nothing.
 use Prim.Native.Nat.{◌-◌}
-use native.Mathlib.Omega.{arith}
-use mathlib.Core.Path.{◌≡◌, refl}
+use mathlib.Core.Path.{◌≡◌}
 use lib.ListN.{length}
-use borrow.Author.Rules.{rules}
-use borrow.Author.Tests.{not-true}
-use Rattle.mend_io.specs.Steps.{PartCopied}
-use Rattle.mend_io.proofs.CopyLaws.{Copying, copying-none, copying-more, copied-begun, copied-end, copied-failed, stepped-more, stepped-failed}
+use Rattle.mend_io.proofs.CopyLaws.{Copying}
 use Rattle.mend_io.proofs.copy.Given as goal
 
 abbrev pub invariant-loop-next : goal.invariant-loop-next

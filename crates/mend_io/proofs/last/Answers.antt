@@ -1,6 +1,5 @@
 -- `mend_io::last` meets its contract. Assumes nothing.
 use Prim.Native.Nat.{ℕ}
-use native.Mathlib.Omega.{arith}
 use mathlib.Core.Path.{ap, ◌∙◌}
 use Rattle.lines.specs.declared.Line.{Line}
 use Rattle.lines.specs.Sums.{checksum}
@@ -8,8 +7,6 @@ use Rattle.lines.specs.Collecting.{line_text}
 use Rattle.lines.proofs.HoldLaws.{written-text}
 use Rattle.mend_text.specs.Reports.{number_text}
 use Rattle.mend_io.specs.declared.Ended.{Ended}
-use Rattle.mend_io.proofs.ReportLaws.{number_short}
-use borrow.Author.Rules.{rules}
 use Rattle.mend_io.proofs.last.Goals as goal
 
 pub returns : goal.returns

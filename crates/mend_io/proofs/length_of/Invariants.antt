@@ -2,7 +2,6 @@
 use Prim.Native.Nat.{◌-◌}
 use mathlib.Core.Path.{◌≡◌}
 use lib.ListN.{length}
-use borrow.Author.Rules.{rules}
 use Rattle.mend_io.proofs.length_of.Given as goal
 
 abbrev pub invariant-loop-seen : goal.invariant-loop-seen

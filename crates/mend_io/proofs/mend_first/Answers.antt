@@ -2,8 +2,7 @@
 use Prim.Native.Nat.{ℕ}
 use mathlib.Core.Path.{sym, ap, ◌∙◌}
 use Rattle.mend_io.specs.Steps.{number_end}
-use Rattle.mend_io.proofs.EndLaws.{mends-failed, mends-refused, mends-written}
-use borrow.Author.Rules.{rules}
+use Rattle.mend_io.proofs.EndLaws.{mends-refused, mends-written}
 use Rattle.mend_io.proofs.mend_first.Goals as goal
 
 pub returns-in-Refused : goal.returns-in-Refused

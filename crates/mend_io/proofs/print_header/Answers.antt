@@ -1,12 +1,10 @@
 -- `mend_io::print_header` meets its contract. Assumes nothing.
-use native.Mathlib.Omega.{arith}
 use mathlib.Core.Path.{ap, ◌∙◌}
 use Rattle.lines.specs.declared.Line.{Line}
 use Rattle.lines.specs.Sums.{checksum}
 use Rattle.lines.specs.Collecting.{line_text}
 use Rattle.lines.proofs.HoldLaws.{written-text}
 use Rattle.mend_text.specs.Reports.{header}
-use borrow.Author.Rules.{rules}
 use Rattle.mend_io.proofs.print_header.Goals as goal
 
 pub returns : goal.returns

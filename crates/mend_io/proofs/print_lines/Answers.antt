@@ -8,32 +8,30 @@ use Rattle.lines.specs.Sums.{checksum}
 use Rattle.mend_text.specs.declared.Gathered.{Gathered}
 use Rattle.mend_text.proofs.GatherLaws.{gather-some}
 use Rattle.mend_io.proofs.ReportLaws.{gathered-lines, gathered-bytes, gathered-text}
-use borrow.Author.Rules.{rules}
 use Rattle.mend_io.proofs.print_lines.Goals as goal
 
 pub slice_bounds-print-end : goal.slice_bounds-print-end
 slice_bounds-print-end c =
-    let within : c.gather-gathered.result.bytes ≤ length c.gather-gathered.new.1.1.0 = let a = c.args in gathered-bytes a.positions.now a.olds.now a.text.now c.gather-gathered.new.1.1.0 c.gather-gathered.ensures.0 c.gather-gathered.ensures.1 in
+    let within : c.gather-gathered.result.bytes ≤ length c.gather-gathered.new.out = let a = c.args in gathered-bytes a.positions.now a.olds.now a.text.now c.gather-gathered.new.out c.gather-gathered.ensures.counted c.gather-gathered.ensures.left in
     within
 
 pub slice_bounds-print-end-2 : goal.slice_bounds-print-end-2
 slice_bounds-print-end-2 c =
-    let within : c.gather-gathered.result.bytes ≤ length c.gather-gathered.new.1.1.0 = let a = c.args in gathered-bytes a.positions.now a.olds.now a.text.now c.gather-gathered.new.1.1.0 c.gather-gathered.ensures.0 c.gather-gathered.ensures.1 in
+    let within : c.gather-gathered.result.bytes ≤ length c.gather-gathered.new.out = let a = c.args in gathered-bytes a.positions.now a.olds.now a.text.now c.gather-gathered.new.out c.gather-gathered.ensures.counted c.gather-gathered.ensures.left in
     sym (length-take-le _ _ within)
 
 pub returns : goal.returns
 returns c =
     let g = c in
     let a = g.args in
-    let counted = g.gather-gathered.ensures.0 in
-    let left = g.gather-gathered.ensures.1 in
+    let counted = g.gather-gathered.ensures.counted in
+    let left = g.gather-gathered.ensures.left in
     let ps = a.positions.now in
     let os = a.olds.now in
-    let first = g.shared_slice_known-1.given 0 in
-    let old = g.shared_slice_known-2-1.given 0 in (
-      record {
-        counted = gathered-lines ps os a.text.now g.gather-gathered.new.1.1.0 counted left;
-        text = c.print-printed.ensures ∙ ap (checksum a.sum) (gathered-text ps os a.text.now g.gather-gathered.new.1.1.0 counted left);
-      },
-      λ room some. subst (λ (x : Gathered). 0 < x.lines) (sym counted) (gather-some ps os (length a.text.now) room (omega (arith, first)) (omega (arith, old)) some),
-    )
+    record {
+      printed = record {
+        counted = gathered-lines ps os a.text.now g.gather-gathered.new.out counted left;
+        text = c.print-printed.ensures ∙ ap (checksum a.sum) (gathered-text ps os a.text.now g.gather-gathered.new.out counted left);
+      };
+      some = λ room some. subst (λ (x : Gathered). 0 < x.lines) (sym counted) (gather-some ps os (length a.text.now) room (omega (arith, c.type_inv.positions 0)) (omega (arith, c.type_inv.olds 0)) some);
+    }

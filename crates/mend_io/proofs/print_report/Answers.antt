@@ -1,5 +1,5 @@
 -- `mend_io::print_report` meets its contract. The loop's invariant: the lines before `from` are printed. The measure is what is left of the report. Assumes nothing.
-use Prim.Native.Nat.{◌+◌, ◌-◌, ◌≤◌}
+use Prim.Native.Nat.{◌+◌, ◌≤◌}
 use native.Mathlib.Omega.{arith}
 use mathlib.Core.Path.{◌≡◌, refl}
 use mathlib.Core.List.{flatten}
@@ -22,12 +22,12 @@ overflow_add-from c =
     let a = l.args in
     let ps = a.positions.now in
     let os = a.olds.now in
-    let b = c.print_lines-batch.ensures.0 in
+    let b = c.print_lines-batch.ensures.printed in
     let room = length l.loop-from.text in (
-      omega (arith, b.counted, batch-within ps os l.loop-from.from room l.pre.0 l.loop-from.inv.0),
-      batch-more ps os l.loop-from.from room l.pre.0 a.before l.loop-from.sum c.print_lines-batch.result.sum c.print_lines-batch.result.lines l.loop-from.inv.1 b.counted b.text,
+      omega (arith, b.counted, batch-within ps os l.loop-from.from room l.requires.positions_len l.loop-from.invariant.0),
+      batch-more ps os l.loop-from.from room l.requires.positions_len a.before l.loop-from.sum c.print_lines-batch.result.sum c.print_lines-batch.result.lines l.loop-from.invariant.1 b.counted b.text,
     ) in
-    let p = c in record { fits = omega (arith, turn.0, p.good.1.0) }
+    let p = c in omega (arith, turn.0)
 
 pub returns-then-not-batch : goal.returns-then-not-batch
 returns-then-not-batch c =
@@ -36,10 +36,10 @@ returns-then-not-batch c =
     let a = l.args in
     let ps = a.positions.now in
     let os = a.olds.now in
-    let b = c.print_lines-batch.ensures.0 in
+    let b = c.print_lines-batch.ensures.printed in
     let room = length l.loop-from.text in (
-      omega (arith, b.counted, batch-within ps os l.loop-from.from room l.pre.0 l.loop-from.inv.0),
-      batch-more ps os l.loop-from.from room l.pre.0 a.before l.loop-from.sum c.print_lines-batch.result.sum c.print_lines-batch.result.lines l.loop-from.inv.1 b.counted b.text,
+      omega (arith, b.counted, batch-within ps os l.loop-from.from room l.requires.positions_len l.loop-from.invariant.0),
+      batch-more ps os l.loop-from.from room l.requires.positions_len a.before l.loop-from.sum c.print_lines-batch.result.sum c.print_lines-batch.result.lines l.loop-from.invariant.1 b.counted b.text,
     ) in
     let p = c in
     shown-broken _ _ (p.loop-from.from + p.print_lines-batch.result.lines) turn.1
@@ -51,17 +51,17 @@ loop-from-smaller c =
     let a = l.args in
     let ps = a.positions.now in
     let os = a.olds.now in
-    let b = c.print_lines-batch.ensures.0 in
+    let b = c.print_lines-batch.ensures.printed in
     let room = length l.loop-from.text in (
-      omega (arith, b.counted, batch-within ps os l.loop-from.from room l.pre.0 l.loop-from.inv.0),
-      batch-more ps os l.loop-from.from room l.pre.0 a.before l.loop-from.sum c.print_lines-batch.result.sum c.print_lines-batch.result.lines l.loop-from.inv.1 b.counted b.text,
+      omega (arith, b.counted, batch-within ps os l.loop-from.from room l.requires.positions_len l.loop-from.invariant.0),
+      batch-more ps os l.loop-from.from room l.requires.positions_len a.before l.loop-from.sum c.print_lines-batch.result.sum c.print_lines-batch.result.lines l.loop-from.invariant.1 b.counted b.text,
     ) in
     let p = c in
     let l = p in
     let a = l.args in
-    let rest = batch-rest a.positions.now a.olds.now l.loop-from.from (length l.loop-from.text) l.pre.0 in
+    let rest = batch-rest a.positions.now a.olds.now l.loop-from.from (length l.loop-from.text) l.requires.positions_len in
     let test = c.loop-from-test.true in
-    let some = p.print_lines-batch.ensures.1 (omega (arith, l.loop-from.inv.2, l.pre.1)) (omega (arith, rest, test)) in
+    let some = p.print_lines-batch.ensures.some (omega (arith, l.loop-from.invariant.2, l.requires.in_bounds)) (omega (arith, rest, test)) in
     omega (arith, some, test, turn.0)
 
 pub loop-from-preserved : goal.loop-from-preserved
@@ -71,10 +71,10 @@ loop-from-preserved c =
     let a = l.args in
     let ps = a.positions.now in
     let os = a.olds.now in
-    let b = c.print_lines-batch.ensures.0 in
+    let b = c.print_lines-batch.ensures.printed in
     let room = length l.loop-from.text in (
-      omega (arith, b.counted, batch-within ps os l.loop-from.from room l.pre.0 l.loop-from.inv.0),
-      batch-more ps os l.loop-from.from room l.pre.0 a.before l.loop-from.sum c.print_lines-batch.result.sum c.print_lines-batch.result.lines l.loop-from.inv.1 b.counted b.text,
+      omega (arith, b.counted, batch-within ps os l.loop-from.from room l.requires.positions_len l.loop-from.invariant.0),
+      batch-more ps os l.loop-from.from room l.requires.positions_len a.before l.loop-from.sum c.print_lines-batch.result.sum c.print_lines-batch.result.lines l.loop-from.invariant.1 b.counted b.text,
     ) in
     let t = turn in
     (t.0, t.1, search rules)
@@ -83,4 +83,4 @@ pub returns : goal.returns
 returns c =
     let l = c in
     let a = l.args in
-    shown-whole _ _ l.loop-from.from l.loop-from.invariant.1 (shown-all a.positions.now a.olds.now l.loop-from.from l.requires.0 c.loop-from-test.false)
+    shown-whole _ _ l.loop-from.from l.loop-from.invariant.1 (shown-all a.positions.now a.olds.now l.loop-from.from l.requires.positions_len c.loop-from-test.false)

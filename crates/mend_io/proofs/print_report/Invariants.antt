@@ -1,14 +1,10 @@
 -- `mend_io::print_report` meets its contract. The loop's invariant: the lines before `from` are printed. The measure is what is left of the report. Assumes nothing.
-use Prim.Native.Nat.{◌+◌, ◌-◌, ◌≤◌}
-use native.Mathlib.Omega.{arith}
-use mathlib.Core.Path.{◌≡◌, refl}
-use mathlib.Core.List.{flatten}
+use Prim.Native.Nat.{◌-◌, ◌≤◌}
+use mathlib.Core.Path.{◌≡◌}
 use lib.ListN.{length, take}
 use Rattle.lines.specs.Sums.{checksum}
 use Rattle.padding.specs.Files.{lines}
 use Rattle.mend_text.specs.Reports.{report_text}
-use Rattle.mend_io.proofs.ReportLaws.{batch-rest, batch-within, batch-more, shown-all, shown-broken, shown-whole}
-use borrow.Author.Rules.{rules}
 use Rattle.mend_io.proofs.print_report.Given as goal
 
 abbrev pub invariant-loop-from : goal.invariant-loop-from
