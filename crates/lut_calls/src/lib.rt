@@ -15,7 +15,7 @@ use refusal::Answer;
 
 // What answers the samples of one pair of sides. A sample's distance from the origin, in steps of a size, leads by whole steps of 2^shift to a point from
 // base on, where steps count: on is then 1, else 0. Wide is 1 where the row is exponential, else 0.
-#[derive(Drop)]
+#[derive(Clone, Copy)]
 struct Row {
     origin: i32,
     size: i64,
@@ -26,7 +26,7 @@ struct Row {
 }
 
 // The rows of one table, by the side of the sample.
-#[derive(Drop)]
+#[derive(Clone, Copy)]
 struct TableRows {
     below: Row,
     hit: Row,
@@ -34,14 +34,14 @@ struct TableRows {
 }
 
 // The first sample that is not below a table, and the last that is not above it.
-#[derive(Drop)]
+#[derive(Clone, Copy)]
 struct Span {
     first: i64,
     last: i64,
 }
 
 // The spans of both tables.
-#[derive(Drop)]
+#[derive(Clone, Copy)]
 struct Bounds {
     x: Span,
     y: Span,
