@@ -6,7 +6,7 @@ ghost use Rattle.refusal.specs.Codes.{code_of, answer_code, fault_index};
 ghost use Rattle.refusal.specs.Sizes.{size_valid};
 
 // One variant for each row of the paper's table; `code` gives the row's number.
-#[derive(Drop)]
+#[derive(Clone, Copy)]
 pub enum Refusal {
     Size,
     Precision,
@@ -39,7 +39,7 @@ pub enum Refusal {
 }
 
 // Accepted, or refused with the index at fault (the paper's "place").
-#[derive(Drop)]
+#[derive(Clone, Copy)]
 pub enum Answer {
     Accepted,
     Refused(Refusal, usize),

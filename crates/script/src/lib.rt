@@ -14,7 +14,7 @@ pub struct Sheet {
 }
 
 // A line's number, its answer and its value.
-#[derive(Drop)]
+#[derive(Clone, Copy)]
 pub struct Row {
     pub line: u64,
     pub answer: Answer,
@@ -22,14 +22,14 @@ pub struct Row {
 }
 
 // The row of a line that ended, if one did.
-#[derive(Drop)]
+#[derive(Clone, Copy)]
 pub enum Given {
     Nothing,
     Line(Row),
 }
 
 // The state after a part of the input, how many bytes of the part were read, and what they gave.
-#[derive(Drop)]
+#[derive(Clone, Copy)]
 pub struct Fed {
     pub sheet: Sheet,
     pub read: usize,
