@@ -13,6 +13,7 @@ pub(crate) fn give(answer: Answer, fault: &mut usize) -> u32
 }
 
 // The number of a quantity's answer; its index at fault is stored, and the quantity where there is one.
+#[tactic(auto, unfolding(refusal::specs::Checks::leaves))]
 pub(crate) fn give_quantity(quantity: Quantity, value: &mut u64, fault: &mut usize) -> u32
     ensures { Valued quantity value.old result value.new fault.new }
 {
@@ -26,6 +27,7 @@ pub(crate) fn give_quantity(quantity: Quantity, value: &mut u64, fault: &mut usi
 }
 
 // The number of a conversion's answer; its index at fault is stored, and where there is a value, it and whether it was held.
+#[tactic(auto, unfolding(refusal::specs::Checks::leaves))]
 pub(crate) fn give_converted(
     converted: Quantized,
     value: &mut i16,

@@ -9,6 +9,7 @@ use crate::{answers, lut_words};
 use lut::{LutSettings, XMode};
 
 // A run on settings.
+#[tactic(auto, unfolding(crate::specs::Lookups::run_counter_words))]
 fn run(
     s: LutSettings,
     x_entries: &[i16],

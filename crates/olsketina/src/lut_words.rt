@@ -27,6 +27,7 @@ fn slope_at(scales: &[i16; SLOPES], shifts: &[i32; SLOPES], i: usize) -> Slope
 }
 
 // The settings of both tables, with X in a mode.
+#[tactic(auto, unfolding(crate::specs::Lookups::settings_from))]
 pub(crate) fn settings_of(
     mode: XMode,
     x: &[i32; SETTINGS_WORDS],
@@ -76,6 +77,7 @@ pub(crate) fn counters_of(words: &[u32; COUNTERS]) -> Counters
 }
 
 // Writes the counters where a run was accepted.
+#[tactic(auto, unfolding(refusal::specs::Checks::leaves))]
 pub(crate) fn leave_counters(words: &mut [u32; COUNTERS], answer: Answer, counters: Counters)
     ensures { words.new ≡ leaves answer (counter_words counters) words.old }
 {
@@ -91,6 +93,7 @@ pub(crate) fn leave_counters(words: &mut [u32; COUNTERS], answer: Answer, counte
 }
 
 // The number of an X table's mode: its select or its offset.
+#[tactic(auto, unfolding(crate::specs::Ready::mode_number))]
 fn mode_number(mode: XMode) -> i32
     ensures { result ≡ mode_number mode }
 {

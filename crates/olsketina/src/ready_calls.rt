@@ -11,6 +11,7 @@ use lut::Table;
 use refusal::Answer;
 
 // The bit that a word names: 0 is X, 1 is Y, any other leaves it unnamed.
+#[tactic(auto, unfolding(crate::specs::Ready::choice_named))]
 fn choice_named(word: u32) -> Choice
     ensures { result ≡ choice_named word }
 {

@@ -15,6 +15,7 @@ fn joined(low: u32, high: u32) -> u64
 }
 
 // The state that words and text say.
+#[tactic(auto, unfolding(crate::specs::Sheets::sheet_from))]
 pub(crate) fn sheet_of(words: &[u32; STATE_WORDS], text: &[u8; TEXT_BYTES]) -> Sheet
     ensures { result ≡ sheet_from words.now text.now }
 {
@@ -45,6 +46,7 @@ pub(crate) fn write_sheet(words: &mut [u32; STATE_WORDS], sheet: Sheet)
 }
 
 // The row of a line that ended: 1, its number, answer, index at fault and value; all 0 where none ended.
+#[tactic(auto, unfolding(crate::specs::Sheets::row_words))]
 pub(crate) fn row_words(given: Given) -> [u64; ROW_WORDS]
     ensures { result ≡ row_words given }
 {

@@ -42,6 +42,7 @@ fn slots_at(words: &[u32], at: usize) -> [Region; SLOTS]
 }
 
 // The table whose words stand from `at` on.
+#[tactic(auto, unfolding(crate::specs::Tables::table_at))]
 pub(crate) fn table_at(words: &[u32], at: usize) -> RegionTable
     requires { at + table_size ≤ length words.now }
     ensures { result ≡ table_at words.now at }
@@ -53,6 +54,7 @@ pub(crate) fn table_at(words: &[u32], at: usize) -> RegionTable
 }
 
 // The word that says yes or no: a word that says so already stays.
+#[tactic(auto, unfolding(crate::specs::Tables::flag_word))]
 pub(crate) fn flag_word(yes: bool, old: u32) -> u32
     ensures { result ≡ flag_word yes old }
 {
@@ -120,6 +122,7 @@ pub(crate) fn write_table(words: &mut [u32], at: usize, table: RegionTable)
 }
 
 // Writes a table's words where a call was accepted.
+#[tactic(auto, unfolding(refusal::specs::Checks::leaves))]
 pub(crate) fn leave_table(words: &mut [u32; TABLE_WORDS], answer: Answer, table: RegionTable)
     ensures { words.new ≡ leaves answer (with_table table 0 words.old) words.old }
 {
