@@ -23,7 +23,7 @@ walk:nnnnnnn\nstep:wwwwwwwwwwww\nmend part:nnnnnnnwwnnn\nmend file:nnnnnnnn\n";
 pub const UNKNOWN: u32 = 255;
 
 // A command, and the index in the table of the letter of its first word.
-#[derive(Drop)]
+#[derive(Clone, Copy)]
 pub struct Found {
     pub command: u32,
     pub kinds: usize,

@@ -12,7 +12,7 @@ pub const WORDS: u32 = 2;
 
 pub const COMMENT: u32 = 3;
 
-#[derive(Drop)]
+#[derive(Clone, Copy)]
 pub struct Line {
     // counted from 1
     pub number: u64,

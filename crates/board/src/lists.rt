@@ -3,7 +3,7 @@ use crate::numbers::{of_byte, of_short, of_signed, short, signed};
 use crate::print::{end_line, print_item, print_natural};
 
 // Where members come from: the camera curves, or numbers drawn from a state, each base + draw mod span, the base growing by step; a span of 0 is all 2^32.
-#[derive(Drop)]
+#[derive(Clone, Copy)]
 pub struct Source {
     pub curves: bool,
     pub state: u32,

@@ -13,7 +13,7 @@ use layout::CubeLayout;
 use refusal::{Answer, Quantity};
 
 // What the parts of a file came to: the last refusal, if any; how many bytes were reported; a checksum of the joined report.
-#[derive(Drop)]
+#[derive(Clone, Copy)]
 pub struct Mended {
     pub answer: Answer,
     pub count: u64,

@@ -9,7 +9,7 @@ use refusal::Answer;
 use walk::{NextAtom, Started, Walk};
 
 // What the steps of a walk came to: how many atoms, the checksum of their positions, and the walk that the last step handed back.
-#[derive(Drop)]
+#[derive(Clone, Copy)]
 pub struct Scan {
     pub atoms: usize,
     pub sum: u64,
@@ -35,10 +35,10 @@ fn walk_of(n: [u64; 16]) -> Walk {
 }
 
 // The answer of a start.
-fn answer_of(started: Started) -> Answer {
+fn answer_of(started: &Started) -> Answer {
     match started {
         Started::Walking(_) => Answer::Accepted,
-        Started::Refused(r, at) => Answer::Refused(r, at),
+        Started::Refused(r, at) => Answer::Refused(*r, *at),
     }
 }
 
@@ -180,7 +180,7 @@ pub fn run(
 ) {
     let layout = cube_layout(n);
     let started = walk_calls::start(layout, elements, buffer.len());
-    let answer = answer_of(started);
+    let answer = answer_of(&started);
     let first = first_of(started);
     let scan = write_atoms(first, elements, buffer);
     let ended = has_none(scan.walk, elements);

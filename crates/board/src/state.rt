@@ -3,7 +3,7 @@ use crate::line::Line;
 use lut::Counters;
 use regions::RegionTable;
 
-#[derive(Drop)]
+#[derive(Clone, Copy)]
 pub struct State {
     pub line: Line,
     // how many elements, bytes and samples are lent

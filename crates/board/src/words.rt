@@ -1,7 +1,7 @@
 // A word of a line, read byte by byte: a decimal number with a sign where negative, or hexadecimal digits; after either, `*` and how many times it stands.
 
 // What was read of a word: its sign, its number, how many digits it has; whether a `*` came, and the count after it.
-#[derive(Drop)]
+#[derive(Clone, Copy)]
 pub struct Word {
     pub negative: bool,
     pub value: u64,
