@@ -328,9 +328,9 @@ fn the_curve_that_is_linked() {
     assert_eq!(stored(&program), [!cfg!(feature = "computed-curve"); 2]);
 }
 
-/// A refusal's name, as the header writes it, and number, from a clause of the definition: `codeOf XSelect = 12`.
+/// A refusal's name, as the header writes it, and number, from a clause of the definition: `code_of XSelect = 12`.
 fn defined_refusal(clause: &str) -> Option<(String, u32)> {
-    let (variant, number) = clause.strip_prefix("codeOf ")?.split_once(" = ")?;
+    let (variant, number) = clause.strip_prefix("code_of ")?.split_once(" = ")?;
     let mut name = String::new();
     for (letter, next) in variant.chars().zip(variant.chars().skip(1).chain(['-'])) {
         if letter.is_uppercase() && next.is_lowercase() && !name.is_empty() {
