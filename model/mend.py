@@ -43,10 +43,19 @@ def request(source):
 
 # --- files ---
 
+def is_text(name):
+    """Whether a name is UTF-8 text: only then does the program's library open it."""
+    try:
+        name.decode()
+    except UnicodeDecodeError:
+        return False
+    return True
+
+
 def opens_to_write(files, name):
-    """Whether a file can be made or emptied under a name: it is no folder, and stands in one that is there."""
+    """Whether a file can be made or emptied under a name: the name is text, and it is no folder, and stands in one that is there."""
     folder, _, _ = name.rpartition(b"/")
-    return files.get(name) is not FOLDER and (name in files or not folder or files.get(folder) is FOLDER)
+    return is_text(name) and files.get(name) is not FOLDER and (name in files or not folder or files.get(folder) is FOLDER)
 
 
 # --- a run ---
@@ -70,7 +79,7 @@ def run(source, files):
     if asked is None:
         return refused(UNREADABLE, 0)
     whole = files.get(asked.first)
-    if not isinstance(whole, bytes):
+    if not is_text(asked.first) or not isinstance(whole, bytes):
         return refused(UNREADABLE, 0)
     if code := frame_code(asked.layout, len(whole)):
         return refused(code, len(whole))

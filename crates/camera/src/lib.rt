@@ -10,7 +10,7 @@ use lut::{LutSettings, Slope, Table, XMode, XSettings, YSettings};
 use refusal::Refusal;
 
 // A priority bit: named as a table, or left unnamed.
-#[derive(Drop)]
+#[derive(Clone, Copy)]
 pub enum Choice {
     Unnamed,
     Named(Table),
