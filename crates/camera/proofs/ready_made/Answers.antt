@@ -9,13 +9,6 @@ use Rattle.camera.specs.declared.Ready.TheVariants.{Setting}
 use Rattle.camera.proofs.ReadyLaws.{valid-between, answer-below, answer-above, answer-setting}
 use Rattle.camera.proofs.ready_made.Goals as goal
 
--- both tests let the select pass
-valid : (c : goal.Else-select-gt22) → between (pos 2) (pos 22) c.args.select ≡ true
-valid c =
-    let not-below : lt_z c.args.select (pos 2) ≡ false = simp (to_z-of_z c.ranges.select) at c.if-select-lt2.false in
-    let h : lt_z (pos 22) c.args.select ≡ false = simp (to_z-of_z c.ranges.select) at c.if-select-gt22.false in
-    valid-between (pos 2) (pos 22) c.args.select not-below h
-
 pub returns-then-select-lt2 : goal.returns-then-select-lt2
 returns-then-select-lt2 c = let a = c.args in
     let h : lt_z a.select (pos 2) ≡ true = simp (to_z-of_z c.ranges.select) at c.if-select-lt2.true in
@@ -29,11 +22,17 @@ returns-then-select-gt22 c =
     let h : lt_z (pos 22) a.select ≡ true = simp (to_z-of_z d.ranges.select) at c.if-select-gt22.true in
     answer-above a.select a.priority a.overflow a.underflow not-below h
 
+-- both tests let the select pass
 pub settings-requires : goal.settings-requires
-settings-requires c = rw (to_z-of_z c.ranges.select) (valid c)
+settings-requires c =
+    let at-least : lt_z c.args.select (pos 2) ≡ false = simp (to_z-of_z c.ranges.select) at c.if-select-lt2.false in
+    let at-most : lt_z (pos 22) c.args.select ≡ false = simp (to_z-of_z c.ranges.select) at c.if-select-gt22.false in
+    rw (to_z-of_z c.ranges.select) (valid-between (pos 2) (pos 22) c.args.select at-least at-most)
 
 pub returns : goal.returns
-returns c = let s = c in
-    let a = s.args in
-    ap Setting (c.settings.ensures ∙ rw (to_z-of_z s.ranges.select))
-    ∙ answer-setting a.select a.priority a.overflow a.underflow (valid c.before)
+returns c =
+    let a = c.args in
+    let low : lt_z a.select (pos 2) ≡ false = simp (to_z-of_z c.ranges.select) at c.if-select-lt2.false in
+    let high : lt_z (pos 22) a.select ≡ false = simp (to_z-of_z c.ranges.select) at c.if-select-gt22.false in
+    ap Setting (c.settings.ensures ∙ rw (to_z-of_z c.ranges.select))
+    ∙ answer-setting a.select a.priority a.overflow a.underflow (valid-between (pos 2) (pos 22) a.select low high)
