@@ -8,8 +8,7 @@ use lib.IntN.{ℤ, pos, negsuc}
 use lib.ListN.{length, get_or}
 use lib.Signed.{mag, le_z}
 use Rattle.refusal.specs.declared.Refusal.{Refusal}
-use Rattle.refusal.specs.declared.Answer.TheVariants.{Accepted, Refused}
-use Rattle.refusal.specs.Checks.{in_order}
+use Rattle.refusal.specs.Checks.{in_order, Accepted, Refused}
 use Rattle.elements.specs.Values.{is_nan, value_check, value_checks}
 use Rattle.elements.proofs.ValueLaws.{value_checks-least}
 use Rattle.elements.proofs.NanLaws as nans

@@ -5,8 +5,7 @@ use mathlib.Core.Bool.{true, false}
 use mathlib.Core.List.{[], ◌∷◌}
 use lib.IntN.{pos, negsuc}
 use Rattle.refusal.specs.declared.Refusal.TheVariants.{Precision, Int8Range, Fp16Nan}
-use Rattle.refusal.specs.declared.Answer.TheVariants.{Accepted, Refused}
-use Rattle.refusal.specs.Checks.{require_at, in_order, leaves}
+use Rattle.refusal.specs.Checks.{require_at, in_order, leaves, Accepted, Refused}
 use Rattle.elements.specs.Bytes.{element_bytes, byte_of, word_at, signed, element_at}
 use Rattle.elements.specs.Values.{is_nan, value_check, value_valid, value_checks_from, value_checks, precision_checks}
 

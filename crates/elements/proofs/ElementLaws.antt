@@ -14,8 +14,7 @@ use borrow.Author.Tests.{leb-true, le-leb}
 use Rattle.general.proofs.TestLaws.{and_left, and_both}
 use Rattle.refusal.specs.declared.Refusal.{Refusal}
 use Rattle.refusal.specs.declared.Refusal.TheVariants.{Int8Range, Fp16Nan}
-use Rattle.refusal.specs.declared.Answer.TheVariants.{Refused}
-use Rattle.refusal.specs.Checks.{require_at, leaves}
+use Rattle.refusal.specs.Checks.{require_at, leaves, Refused}
 use Rattle.refusal.proofs.CheckLaws.{require_at-true, require_at-false}
 use Rattle.elements.specs.Bytes.{element_bytes, byte_of}
 use Rattle.elements.specs.Values.{is_nan, value_check, value_valid}

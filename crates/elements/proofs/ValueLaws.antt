@@ -16,10 +16,8 @@ use lib.ListN.{length, get_or, replicate, length-replicate, get_or-replicate}
 use borrow.Author.Tests.{lt-ltb, le-ltb}
 use Rattle.refusal.specs.declared.Refusal.{Refusal}
 use Rattle.refusal.specs.declared.Refusal.TheVariants.{Precision}
-use Rattle.refusal.specs.declared.Answer.{Answer}
-use Rattle.refusal.specs.declared.Answer.TheVariants.{Accepted, Refused}
-use Rattle.refusal.specs.Checks.{require_at, in_order}
-use Rattle.refusal.proofs.CheckLaws.{require_at-true, in_order-nil, in_order-next, in_order-stop, in_order-held, in_order-rest}
+use Rattle.refusal.specs.Checks.{require_at, in_order, Answer, Accepted, Refused}
+use Rattle.refusal.proofs.CheckLaws.{require_at-true, in_order-nil, in_order-next, in_order-stop, in_order-held, in_order-rest, refused-same}
 use Rattle.elements.specs.Values.{value_check, value_valid, value_checks_from, value_checks, precision_checks}
 use Rattle.elements.proofs.ElementLaws.{value_refusal, value_check-is, value_check-refused, value_valid-int16, zero-valid}
 
@@ -92,8 +90,9 @@ both_ways e f = let z : ◌≡◌ {A = ℕ} 0 1 = cc in absurd (omega arith)
 same-fault : (p : ℕ) (zs : List ℤ) (r : Refusal) (i m : ℕ) → Faulty p zs m → {a : Answer} → a ≡ Refused (value_refusal p) m → a ≡ Refused r i
     → (i < length zs) × (value_check p i (get_or zs i (pos 0)) ≡ Refused r i) × ((j : ℕ) → j < i → value_check p j (get_or zs j (pos 0)) ≡ Accepted)
 same-fault p zs r i m w e f =
-    let same : m ≡ i = cc in
-    let number : value_refusal p ≡ r = cc in
+    let both = refused-same (sym e ∙ f) in
+    let same : m ≡ i = both.1 in
+    let number : value_refusal p ≡ r = both.0 in
     let v : Faulty p zs i = subst (λ (n : ℕ). Faulty p zs n) same w in (
       v.0,
       value_check-refused p i (get_or zs i (pos 0)) v.1 ∙ ap (λ (x : Refusal). Refused x i) number,

@@ -2,9 +2,7 @@
 use Rattle.std.specs.Prelude.{ℕ, zero, suc, ◌/◌, ◌%◌, ◌<◌, Bool, true, false, not, ◌&&◌, List, [], ◌∷◌, ltb, eqb, ℤ, pos, negsuc, get_or}
 use Rattle.std.specs.Int.Signed.{mag, le_z}
 use Rattle.refusal.specs.declared.Refusal.TheVariants.{Precision, Int8Range, Fp16Nan}
-use Rattle.refusal.specs.declared.Answer.{Answer}
-use Rattle.refusal.specs.declared.Answer.TheVariants.{Accepted}
-use Rattle.refusal.specs.Checks.{require, require_at, leaves}
+use Rattle.refusal.specs.Checks.{require, require_at, leaves, Answer, Accepted}
 use Rattle.elements.specs.Bytes.{bit_pattern}
 
 -- of fp16: the lowest ten bits are the fraction, the next five the exponent, the highest the sign; NaN has an exponent of ones and a fraction that is not 0

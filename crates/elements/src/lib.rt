@@ -7,7 +7,7 @@ ghost use Rattle.elements.specs.Bytes.{element_bytes, byte_of, bit_pattern, sign
 ghost use Rattle.elements.specs.Values.{value_check, value_valid, value_checks, precision_checks};
 ghost use Rattle.elements.specs.Steps.{all_valid, low_bits};
 
-use refusal::{Answer, Refusal};
+use refusal::{Answer, Fault, Refusal};
 
 // Bytes an element, by the precision code: 1 for int8, else 2, also for a number that is no precision's code.
 pub fn element_bytes(precision: u32) -> u32
@@ -106,11 +106,8 @@ fn all_valid(precision: u32, elements: &[i16]) -> bool
     ensures { result ≡ all_valid precision elements.now (length elements.now) }
 {
     let mut seen: u16 = 0;
-    let mut i: usize = 0;
-    while i < elements.len() {
-        let x = elements[i];
+    for &x in elements {
         seen = either(seen, raised(precision, x));
-        i += 1;
     }
     seen < limit(precision)
 }
@@ -121,15 +118,12 @@ fn first_refused(precision: u32, elements: &[i16]) -> usize
     ensures first { in_order (value_checks precision elements.now) ≡ value_check precision result (get_or elements.now result (pos 0)) }
     ensures fault { value_valid precision (get_or elements.now result (pos 0)) ≡ false }
 {
-    let mut at: usize = 0;
-    while at < elements.len() {
-        let x = elements[at];
+    for (at, &x) in elements.iter().enumerate() {
         if limit(precision) <= raised(precision, x) {
             return at;
         }
-        at += 1;
     }
-    at
+    elements.len()
 }
 
 // Whether a precision takes every element; a refusal of one has the least index at fault. Checks 2, then 7 or 26.
@@ -137,17 +131,17 @@ pub fn check_values(precision: u32, elements: &[i16]) -> Answer
     ensures { result ≡ in_order (precision_checks precision elements.now) }
 {
     if 2 < precision {
-        return Answer::Refused(Refusal::Precision, 0);
+        return Err(Fault(Refusal::Precision, 0));
     }
     if precision == 1 {
-        return Answer::Accepted;
+        return Ok(());
     }
     if all_valid(precision, elements) {
-        return Answer::Accepted;
+        return Ok(());
     }
     let at = first_refused(precision, elements);
     if precision == 0 {
-        return Answer::Refused(Refusal::Int8Range, at);
+        return Err(Fault(Refusal::Int8Range, at));
     }
-    Answer::Refused(Refusal::Fp16Nan, at)
+    Err(Fault(Refusal::Fp16Nan, at))
 }

@@ -1,4 +1,5 @@
 -- Laws of checks made in order. By induction on the list of checks. Assumes nothing.
+--     refused-same                          two refusals that are the same
 --     require_at-true, require_at-false     what one check answers
 --     in_order-next, in_order-stop          the first check of a list held, or failed
 --     in_order-passed, in_order-refused     the first part of a list passed, or was refused
@@ -7,18 +8,22 @@
 --     in_order-all, require_at-held         an accepted list: every check held
 --     leaves-done, leaves-before          what a call leaves, by its answer
 --     leaves-ap, leaves-same              a part of what a call leaves
---     result-given, result-refused        what a call gives, by its answer
---     quantity_given, quantity_refused    a number was given: the call was accepted, and it is its number; or it was refused so
+--     given-accepted, given-refused       what a call gives, by its answer
+--     given-ok, given-err                 a value was given: the call was accepted, and it is its value; or it was refused so
 use Prim.Native.Nat.{ℕ}
 use native.Mathlib.Omega.{arith}
 use mathlib.Core.Path.{◌≡◌, refl, sym, ap, ◌∙◌}
 use mathlib.Core.Bool.{Bool, true, false}
 use mathlib.Core.List.{List, [], ◌∷◌, ◌++◌}
+use Rattle.std.specs.Prelude.{Result, Ok, Err}
 use Rattle.refusal.specs.declared.Refusal.{Refusal}
-use Rattle.refusal.specs.declared.Answer.{Answer}
-use Rattle.refusal.specs.declared.Answer.TheVariants.{Accepted, Refused}
-use Rattle.refusal.specs.declared.Quantity.TheVariants.{Is, Refused as NotGiven}
-use Rattle.refusal.specs.Checks.{require_at, in_order, leaves, result, quantity}
+use Rattle.refusal.specs.declared.Fault.{Fault}
+use Rattle.refusal.specs.Checks.{Answer, Accepted, Refused, refused_at, require_at, in_order, leaves, given}
+
+-- one refusal: its number and its index
+pub refused-same : {r r' : Refusal} {i i' : ℕ} → Refused r i ≡ Refused r' i' → (r ≡ r') × (i ≡ i')
+refused-same {r} {r'} {i} {i'} e =
+    let same : ◌≡◌ {A = Fault} (refused_at i r) (refused_at i' r') = cc e in (ap (λ (f : Fault). f.0) same, ap (λ (f : Fault). f.1) same)
 
 pub require_at-true : (i : ℕ) (r : Refusal) {b : Bool} → b ≡ true → require_at i r b ≡ Accepted
 unfolding require_at
@@ -36,7 +41,7 @@ pub in_order-accepted : {a : Answer} (rest : List Answer) → a ≡ Accepted →
 unfolding in_order
 in_order-accepted rest e = rw e
 
-pub in_order-first : {a : Answer} {r : Refusal} {i : ℕ} (rest : List Answer) → a ≡ Refused r i → in_order (a ∷ rest) ≡ Refused r i
+pub in_order-first : {a : Answer} {f : Fault} (rest : List Answer) → a ≡ Err f → in_order (a ∷ rest) ≡ Err f
 unfolding in_order
 in_order-first rest e = rw e
 
@@ -49,14 +54,14 @@ in_order-stop i r rest e = in_order-first rest (require_at-false i r e)
 pub in_order-passed : (xs ys : List Answer) → in_order xs ≡ Accepted → in_order (xs ++ ys) ≡ in_order ys
 unfolding in_order
 in_order-passed [] ys e = refl
-in_order-passed (Accepted ∷ xs) ys e = in_order-passed xs ys e
-in_order-passed (Refused r i ∷ xs) ys e = let z : ◌≡◌ {A = Answer} (in_order ys) (Refused r i) = cc in sym z
+in_order-passed (Ok _ ∷ xs) ys e = in_order-passed xs ys e
+in_order-passed (Err f ∷ xs) ys e = let z : ◌≡◌ {A = Answer} (in_order ys) (Err f) = cc in sym z
 
-pub in_order-refused : (xs ys : List Answer) {r : Refusal} {i : ℕ} → in_order xs ≡ Refused r i → in_order (xs ++ ys) ≡ Refused r i
+pub in_order-refused : (xs ys : List Answer) {f : Fault} → in_order xs ≡ Err f → in_order (xs ++ ys) ≡ Err f
 unfolding in_order
-in_order-refused [] ys {r} {i} e = cc
-in_order-refused (Accepted ∷ xs) ys e = in_order-refused xs ys e
-in_order-refused (Refused r' i' ∷ xs) ys e = e
+in_order-refused [] ys {f} e = cc
+in_order-refused (Ok _ ∷ xs) ys e = in_order-refused xs ys e
+in_order-refused (Err f' ∷ xs) ys e = e
 
 pub in_order-held : (i : ℕ) (r : Refusal) (b : Bool) (rest : List Answer) → in_order (require_at i r b ∷ rest) ≡ Accepted → b ≡ true
 unfolding in_order require_at
@@ -71,23 +76,23 @@ in_order-rest i r false rest e = cc
 pub in_order-front : (xs ys : List Answer) → in_order (xs ++ ys) ≡ Accepted → in_order xs ≡ Accepted
 unfolding in_order
 in_order-front [] ys e = refl
-in_order-front (Accepted ∷ xs) ys e = in_order-front xs ys e
-in_order-front (Refused r i ∷ xs) ys e = e
+in_order-front (Ok _ ∷ xs) ys e = in_order-front xs ys e
+in_order-front (Err f ∷ xs) ys e = e
 
 pub in_order-back : (xs ys : List Answer) → in_order (xs ++ ys) ≡ Accepted → in_order ys ≡ Accepted
 in_order-back xs ys e = sym (in_order-passed xs ys (in_order-front xs ys e)) ∙ e
 
 -- two lists of checks with one answer, followed by the same checks
 pub in_order-same : (xs ys zs : List Answer) (a : Answer) → in_order xs ≡ a → in_order ys ≡ a → in_order (xs ++ zs) ≡ in_order (ys ++ zs)
-in_order-same xs ys zs Accepted p q = in_order-passed xs zs p ∙ sym (in_order-passed ys zs q)
-in_order-same xs ys zs (Refused r i) p q = in_order-refused xs zs p ∙ sym (in_order-refused ys zs q)
+in_order-same xs ys zs (Ok _) p q = in_order-passed xs zs p ∙ sym (in_order-passed ys zs q)
+in_order-same xs ys zs (Err f) p q = in_order-refused xs zs p ∙ sym (in_order-refused ys zs q)
 
 -- the same checks, followed by two lists of checks with one answer
 pub in_order-then : (xs ys zs : List Answer) → in_order ys ≡ in_order zs → in_order (xs ++ ys) ≡ in_order (xs ++ zs)
 unfolding in_order
 in_order-then [] ys zs e = e
-in_order-then (Accepted ∷ xs) ys zs e = in_order-then xs ys zs e
-in_order-then (Refused r i ∷ xs) ys zs e = refl
+in_order-then (Ok _ ∷ xs) ys zs e = in_order-then xs ys zs e
+in_order-then (Err f ∷ xs) ys zs e = refl
 
 -- ---- every check of an accepted list held
 unfoldable pub Held : List Answer → Type 0
@@ -97,8 +102,8 @@ Held (a ∷ rest) = (a ≡ Accepted) × Held rest
 pub in_order-all : (checks : List Answer) → in_order checks ≡ Accepted → Held checks
 unfolding Held in_order
 in_order-all [] e = tt
-in_order-all (Accepted ∷ rest) e = (refl, in_order-all rest e)
-in_order-all (Refused r i ∷ rest) e = absurd (let z : ◌≡◌ {A = ℕ} 0 1 = cc in omega arith)
+in_order-all (Ok _ ∷ rest) e = (refl, in_order-all rest e)
+in_order-all (Err f ∷ rest) e = absurd (let z : ◌≡◌ {A = ℕ} 0 1 = cc in omega arith)
 
 pub require_at-held : (i : ℕ) (r : Refusal) (b : Bool) → require_at i r b ≡ Accepted → b ≡ true
 unfolding require_at
@@ -109,34 +114,34 @@ pub leaves-done : {A : Type 0} {a : Answer} (done before : A) → a ≡ Accepted
 unfolding leaves
 leaves-done done before e = rw e
 
-pub leaves-before : {A : Type 0} {a : Answer} {r : Refusal} {i : ℕ} (done before : A) → a ≡ Refused r i → leaves a done before ≡ before
+pub leaves-before : {A : Type 0} {a : Answer} {f : Fault} (done before : A) → a ≡ Err f → leaves a done before ≡ before
 unfolding leaves
 leaves-before done before e = rw e
 
 pub leaves-ap : {A B : Type 0} (f : A → B) (a : Answer) (done before : A) → f (leaves a done before) ≡ leaves a (f done) (f before)
 unfolding leaves
-leaves-ap f Accepted done before = refl
-leaves-ap f (Refused r i) done before = refl
+leaves-ap f (Ok _) done before = refl
+leaves-ap f (Err fault) done before = refl
 
 pub leaves-same : {A : Type 0} (a : Answer) (x : A) → leaves a x x ≡ x
 unfolding leaves
-leaves-same Accepted x = refl
-leaves-same (Refused r i) x = refl
+leaves-same (Ok _) x = refl
+leaves-same (Err f) x = refl
 
-pub result-given : {A R : Type 0} (given : A → R) (refused : Refusal → ℕ → R) {a : Answer} (v : A) → a ≡ Accepted → result given refused a v ≡ given v
-unfolding result
-result-given given refused v e = rw e
+pub given-accepted : {A : Type 0} {a : Answer} (v : A) → a ≡ Accepted → given a v ≡ Ok v
+unfolding given
+given-accepted v e = rw e
 
-pub result-refused : {A R : Type 0} (given : A → R) (refused : Refusal → ℕ → R) {a : Answer} {r : Refusal} {i : ℕ} (v : A) → a ≡ Refused r i → result given refused a v ≡ refused r i
-unfolding result
-result-refused given refused v e = rw e
+pub given-refused : {A : Type 0} {a : Answer} {f : Fault} (v : A) → a ≡ Err f → given a v ≡ Err f
+unfolding given
+given-refused v e = rw e
 
-pub quantity_given : (a : Answer) (n m : ℕ) → quantity a n ≡ Is m → (a ≡ Accepted) × (n ≡ m)
-unfolding result
-quantity_given Accepted n m e = (refl, cc)
-quantity_given (Refused r i) n m e = absurd (let z : ◌≡◌ {A = ℕ} 0 1 = cc in omega arith)
+pub given-ok : {A : Type 0} (a : Answer) (v w : A) → given a v ≡ Ok w → (a ≡ Accepted) × (v ≡ w)
+unfolding given
+given-ok (Ok _) v w e = (refl, cc)
+given-ok (Err f) v w e = absurd (let z : ◌≡◌ {A = ℕ} 0 1 = cc in omega arith)
 
-pub quantity_refused : (a : Answer) (n : ℕ) (r : Refusal) (at : ℕ) → quantity a n ≡ NotGiven r at → a ≡ Refused r at
-unfolding result
-quantity_refused Accepted n r at e = absurd (let z : ◌≡◌ {A = ℕ} 0 1 = cc in omega arith)
-quantity_refused (Refused r' at') n r at e = let same : (r' ≡ r) × (at' ≡ at) = (cc, cc) in ap (λ (x : Refusal). Refused x at') same.0 ∙ ap (λ (i : ℕ). Refused r i) same.1
+pub given-err : {A : Type 0} (a : Answer) (v : A) (f : Fault) → given a v ≡ Err f → a ≡ Err f
+unfolding given
+given-err (Ok _) v f e = absurd (let z : ◌≡◌ {A = ℕ} 0 1 = cc in omega arith)
+given-err (Err f') v f e = ap (λ (x : Fault). Err x) cc

@@ -3,10 +3,9 @@ use mathlib.Core.Path.{◌≡◌, refl}
 use mathlib.Core.Bool.{true, false}
 use mathlib.Core.List.{[], ◌∷◌}
 use Rattle.refusal.specs.declared.Refusal.TheVariants.{Size, Int8Range, Slot, Overlap, Fp16Nan}
-use Rattle.refusal.specs.declared.Answer.TheVariants.{Accepted, Refused}
-use Rattle.refusal.specs.declared.Quantity.TheVariants.{Is, Refused as NotGiven}
-use Rattle.refusal.specs.Codes.{answer_code, fault_index, quantity_answer, quantity_value}
-use Rattle.refusal.specs.Checks.{require, require_at, in_order, leaves, quantity, result}
+use Rattle.std.specs.Prelude.{ℕ, Ok, Err}
+use Rattle.refusal.specs.Codes.{answer_code, fault_index, answer_of, quantity_value}
+use Rattle.refusal.specs.Checks.{Accepted, Refused, refused_at, require, require_at, in_order, leaves, given, quantity}
 use Rattle.refusal.specs.Sizes.{size_valid}
 
 pub record Computed : Type 0 where
@@ -16,17 +15,17 @@ pub record Computed : Type 0 where
   -- a refused call leaves what was there before, and gives no number
   pub kept : leaves (Refused Size 0) true false ≡ false
   pub done : leaves Accepted true false ≡ true
-  pub denied : quantity (Refused Slot 0) 5 ≡ NotGiven Slot 0
-  pub given : quantity Accepted 5 ≡ Is 5
+  pub denied : quantity (Refused Slot 0) 5 ≡ Err (refused_at 0 Slot)
+  pub number : quantity Accepted 5 ≡ Ok 5
   -- the paper's number and place
   pub overlap : answer_code (Refused Overlap 0) ≡ 10
   pub nan : answer_code (Refused Fp16Nan 0) ≡ 26
   pub none : fault_index Accepted ≡ 0
   pub place : fault_index (Refused Int8Range 5) ≡ 5
-  pub quantity_refused : answer_code (quantity_answer (NotGiven Slot 0)) ≡ 8
-  pub quantity_given : answer_code (quantity_answer (Is 5)) ≡ 0
-  pub value : quantity_value (Is 5) ≡ 5
-  pub no_value : quantity_value (NotGiven Slot 0) ≡ 0
+  pub quantity_refused : answer_code (answer_of {A = ℕ} (Err (refused_at 0 Slot))) ≡ 8
+  pub quantity_given : answer_code (answer_of {A = ℕ} (Ok 5)) ≡ 0
+  pub value : quantity_value (Ok 5) ≡ 5
+  pub no_value : quantity_value (Err (refused_at 0 Slot)) ≡ 0
   -- sizes are 1 to 8192
   pub zero : size_valid 8192 0 ≡ false
   pub least : size_valid 8192 1 ≡ true
@@ -34,7 +33,7 @@ pub record Computed : Type 0 where
   pub past : size_valid 8192 8193 ≡ false
 
 pub computed : Computed
-unfolding require_at in_order leaves result size_valid
+unfolding require_at in_order leaves given size_valid
 computed =
     record {
       first = refl;
@@ -42,7 +41,7 @@ computed =
       kept = refl;
       done = refl;
       denied = refl;
-      given = refl;
+      number = refl;
       overlap = refl;
       nan = refl;
       none = refl;

@@ -1,11 +1,9 @@
 -- The number of each refusal, and number, index and value of each result (scope paper, "Refusal numbers"). Assumes nothing.
-use Rattle.std.specs.Prelude.{ℕ}
+use Rattle.std.specs.Prelude.{ℕ, Result, Ok, Err}
 use Rattle.refusal.specs.declared.Refusal.{Refusal}
 use Rattle.refusal.specs.declared.Refusal.TheVariants.{Size, Precision, CubeStrides, CubeStart, BufferLength, ElementCount, Int8Range, Slot, Bounds, Overlap, TableLength, XSelect, XEnd, YSelect, YEnd, Shift, Counters, OutputLength, PixelFormat, PixelKind, XOffset, PixelStrides, PixelOutside, ScriptLine, OwnerId, ImageKind, PixelLength, Fp16Nan}
-use Rattle.refusal.specs.declared.Answer.{Answer}
-use Rattle.refusal.specs.declared.Answer.TheVariants.{Accepted, Refused}
-use Rattle.refusal.specs.declared.Quantity.{Quantity}
-use Rattle.refusal.specs.declared.Quantity.TheVariants.{Is, Refused as NotGiven}
+use Rattle.refusal.specs.declared.Fault.{Fault}
+use Rattle.refusal.specs.Checks.{Answer, Quantity}
 
 -- the paper's number
 abbrev pub code_of : Refusal → ℕ
@@ -68,20 +66,20 @@ code_of PixelLength = 30
 
 -- 0 where the call was accepted, else the refusal's number
 abbrev pub answer_code : Answer → ℕ
-answer_code Accepted = 0
-answer_code (Refused r at) = code_of r
+answer_code (Ok _) = 0
+answer_code (Err fault) = code_of fault.0
 
 -- the index at fault, 0 where the call was accepted (the paper's "place")
 abbrev pub fault_index : Answer → ℕ
-fault_index Accepted = 0
-fault_index (Refused r at) = at
+fault_index (Ok _) = 0
+fault_index (Err fault) = fault.1
 
--- a quantity's answer: accepted where there is one
-abbrev pub quantity_answer : Quantity → Answer
-quantity_answer (Is n) = Accepted
-quantity_answer (NotGiven r at) = Refused r at
+-- a result's answer: accepted where there is a value
+abbrev pub answer_of : {A : Type 0} → Result A Fault → Answer
+answer_of (Ok v) = Ok tt
+answer_of (Err fault) = Err fault
 
--- its value, 0 where there is none
+-- a quantity's value, 0 where there is none
 abbrev pub quantity_value : Quantity → ℕ
-quantity_value (Is n) = n
-quantity_value (NotGiven r at) = 0
+quantity_value (Ok n) = n
+quantity_value (Err fault) = 0

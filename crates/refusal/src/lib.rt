@@ -5,87 +5,54 @@ ghost use Rattle.std.specs.Prelude.{◌≡◌};
 ghost use Rattle.refusal.specs.Codes.{code_of, answer_code, fault_index};
 ghost use Rattle.refusal.specs.Sizes.{size_valid};
 
-// One variant for each row of the paper's table; `code` gives the row's number.
-#[derive(Clone, Copy)]
+// One variant for each row of the paper's table, with the row's number.
+#[derive(Clone, Copy, Debug, PartialEq, Eq)]
 pub enum Refusal {
-    Size,
-    Precision,
-    CubeStrides,
-    CubeStart,
-    BufferLength,
-    ElementCount,
-    Int8Range,
-    Slot,
-    Bounds,
-    Overlap,
-    TableLength,
-    XSelect,
-    XEnd,
-    YSelect,
-    YEnd,
-    Shift,
-    Counters,
-    OutputLength,
-    PixelFormat,
-    PixelKind,
-    XOffset,
-    PixelStrides,
-    PixelOutside,
-    ScriptLine,
-    OwnerId,
-    ImageKind,
-    PixelLength,
-    Fp16Nan,
+    Size = 1,
+    Precision = 2,
+    CubeStrides = 3,
+    CubeStart = 4,
+    BufferLength = 5,
+    ElementCount = 6,
+    Int8Range = 7,
+    Slot = 8,
+    Bounds = 9,
+    Overlap = 10,
+    TableLength = 11,
+    XSelect = 12,
+    XEnd = 13,
+    YSelect = 14,
+    YEnd = 15,
+    Shift = 16,
+    Counters = 17,
+    OutputLength = 18,
+    PixelFormat = 19,
+    PixelKind = 20,
+    XOffset = 21,
+    PixelStrides = 22,
+    PixelOutside = 23,
+    ScriptLine = 24,
+    OwnerId = 25,
+    Fp16Nan = 26,
+    ImageKind = 29,
+    PixelLength = 30,
 }
 
-// Accepted, or refused with the index at fault (the paper's "place").
-#[derive(Clone, Copy)]
-pub enum Answer {
-    Accepted,
-    Refused(Refusal, usize),
-}
+// A refusal, and the index at fault (the paper's "place"): 0 where no single element is at fault.
+#[derive(Clone, Copy, Debug, PartialEq, Eq)]
+pub struct Fault(pub Refusal, pub usize);
 
-// A number, or refused with the index at fault.
-#[derive(Drop)]
-pub enum Quantity {
-    Is(u64),
-    Refused(Refusal, usize),
-}
+// Accepted, or refused.
+pub type Answer = Result<(), Fault>;
+
+// A number, or refused.
+pub type Quantity = Result<u64, Fault>;
 
 // The paper's number of a refusal.
 pub fn code(r: Refusal) -> u32
     ensures { result ≡ code_of r }
 {
-    match r {
-        Refusal::Size => 1,
-        Refusal::Precision => 2,
-        Refusal::CubeStrides => 3,
-        Refusal::CubeStart => 4,
-        Refusal::BufferLength => 5,
-        Refusal::ElementCount => 6,
-        Refusal::Int8Range => 7,
-        Refusal::Slot => 8,
-        Refusal::Bounds => 9,
-        Refusal::Overlap => 10,
-        Refusal::TableLength => 11,
-        Refusal::XSelect => 12,
-        Refusal::XEnd => 13,
-        Refusal::YSelect => 14,
-        Refusal::YEnd => 15,
-        Refusal::Shift => 16,
-        Refusal::Counters => 17,
-        Refusal::OutputLength => 18,
-        Refusal::PixelFormat => 19,
-        Refusal::PixelKind => 20,
-        Refusal::XOffset => 21,
-        Refusal::PixelStrides => 22,
-        Refusal::PixelOutside => 23,
-        Refusal::ScriptLine => 24,
-        Refusal::OwnerId => 25,
-        Refusal::ImageKind => 29,
-        Refusal::PixelLength => 30,
-        Refusal::Fp16Nan => 26,
-    }
+    r as u32
 }
 
 // The paper's number of an answer: 0 where it was accepted.
@@ -93,8 +60,8 @@ pub fn answer_code(a: Answer) -> u32
     ensures { result ≡ answer_code a }
 {
     match a {
-        Answer::Accepted => 0,
-        Answer::Refused(r, _) => code(r),
+        Ok(()) => 0,
+        Err(fault) => code(fault.0),
     }
 }
 
@@ -103,8 +70,8 @@ pub fn fault_index(a: Answer) -> usize
     ensures { result ≡ fault_index a }
 {
     match a {
-        Answer::Accepted => 0,
-        Answer::Refused(_, at) => at,
+        Ok(()) => 0,
+        Err(fault) => fault.1,
     }
 }
 

@@ -25,14 +25,14 @@ returns-then-limit-raised c =
     let l = r.loop-at in
     let a = r.args in
     let fault = sym taken ∙ le-ltb _ _ c.if-limit-raised.true in
-    record { first = value_checks-first a.precision a.elements.now l.at r.loop-at-test.true l.invariant.1 fault; fault = fault }
+    record { first = value_checks-first a.precision a.elements.now l.at r.loop-at-test.true l.invariant fault; fault = fault }
 
 pub returns : goal.returns
 returns c =
     let a = c.args in
     let zs = a.elements.now in
     let whole : c.loop-at.at ≡ length zs = omega arith in
-    let none = all_valid-all a.precision zs c.loop-at.at c.loop-at.invariant.1 in
+    let none = all_valid-all a.precision zs c.loop-at.at c.loop-at.invariant in
     let all : all_valid a.precision zs (length zs) ≡ true = rw whole at none in
     let never : ◌≡◌ {A = ℕ} 0 1 = cc c.requires.1 in
     absurd (omega arith)
