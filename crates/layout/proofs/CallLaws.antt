@@ -20,11 +20,11 @@ use lib.ListN.{length, replicate, length-replicate}
 use lib.Dec.{leb}
 use lib.IntN.{ℤ, pos}
 use borrow.Author.Tests.{leb-true, eqb-true, le-leb, lt-leb, eq-eqb, ne_eqb}
-use Rattle.refusal.specs.declared.Answer.{Answer}
-use Rattle.refusal.specs.declared.Answer.TheVariants.{Accepted, Refused}
+use Rattle.std.specs.Prelude.{Err, Ok}
+use Rattle.refusal.specs.declared.Fault.{Fault}
 use Rattle.refusal.specs.declared.Refusal.{Refusal}
 use Rattle.refusal.specs.declared.Refusal.TheVariants.{BufferLength, ElementCount, Bounds}
-use Rattle.refusal.specs.Checks.{require, in_order}
+use Rattle.refusal.specs.Checks.{require, in_order, Answer, Accepted, Refused}
 use Rattle.refusal.proofs.CheckLaws.{Held, in_order-all, require_at-held, in_order-nil, in_order-next, in_order-stop, in_order-front, in_order-back, in_order-passed, in_order-refused, in_order-same, in_order-then}
 use Rattle.elements.specs.Values.{value_checks}
 use Rattle.elements.proofs.ValueLaws.{value_checks-zeros}
@@ -62,7 +62,7 @@ module _ (q : CubeLayout) (box : ElementBox) where
   unfolding box_checks Held
   box-inside e = require_at-held _ _ _ (in_order-all _ (in_order-back (layout_checks q) _ e)).0
 
-  pub box-refused : {r : Refusal} {i : ℕ} → in_order (layout_checks q) ≡ Refused r i → Refused r i ≡ in_order (box_checks q box)
+  pub box-refused : {f : Fault} → in_order (layout_checks q) ≡ Err f → Err f ≡ in_order (box_checks q box)
   unfolding box_checks
   box-refused e = sym (in_order-refused (layout_checks q) (require Bounds (box_inside q box) ∷ []) e)
 
@@ -95,8 +95,8 @@ admitted q box given len e =
 
 -- the box check of the whole cube holds once the layout is valid
 whole-front : (q : CubeLayout) (a : Answer) → in_order (layout_checks q) ≡ a → in_order (box_checks q (whole_box q)) ≡ a
-whole-front q Accepted e = sym (box-accepted q (whole_box q) e (whole-inside q (valid q e)))
-whole-front q (Refused r i) e = sym (box-refused q (whole_box q) e)
+whole-front q (Ok _) e = sym (box-accepted q (whole_box q) e (whole-inside q (valid q e)))
+whole-front q (Err f) e = sym (box-refused q (whole_box q) e)
 
 pub admit-whole : (q : CubeLayout) (given len : ℕ) → in_order (admit_checks q (whole_box q) given len) ≡ in_order (cube_checks q given len)
 unfolding admit_checks cube_checks
@@ -119,7 +119,7 @@ pack-values q raw len e = in_order-back (cube_checks q (length raw) len) (value_
 
 -- ---- checks 1 to 4, 9, 6, 5 as the code goes through them
 module _ (q : CubeLayout) (box : ElementBox) (given len : ℕ) where
-  pub admit-box : {r : Refusal} {i : ℕ} → in_order (box_checks q box) ≡ Refused r i → Refused r i ≡ in_order (admit_checks q box given len)
+  pub admit-box : {f : Fault} → in_order (box_checks q box) ≡ Err f → Err f ≡ in_order (admit_checks q box given len)
   unfolding admit_checks
   admit-box e = sym (in_order-refused (box_checks q box) (storage_checks q (box_count box) given len) e)
 
@@ -161,7 +161,7 @@ admit-front q box given len e = in_order-front (box_checks q box) (storage_check
 
 -- ---- calls that write: 7 or 26 after the others
 module _ (q : CubeLayout) (box : ElementBox) (xs : List ℤ) (len : ℕ) where
-  pub write-refused : {r : Refusal} {i : ℕ} → in_order (admit_checks q box (length xs) len) ≡ Refused r i → Refused r i ≡ write_box_answer q box xs len
+  pub write-refused : {f : Fault} → in_order (admit_checks q box (length xs) len) ≡ Err f → Err f ≡ write_box_answer q box xs len
   unfolding write_box_answer
   write-refused e = sym (in_order-refused (admit_checks q box (length xs) len) (value_checks q.precision xs) e)
 
@@ -188,7 +188,7 @@ clear-as-write q box len =
 
 -- ---- checks 1 to 4, 9, 5 as the code goes through them
 module _ (q : CubeLayout) (box : ElementBox) (len : ℕ) where
-  pub clear-box : {r : Refusal} {i : ℕ} → in_order (box_checks q box) ≡ Refused r i → Refused r i ≡ clear_box_answer q box len
+  pub clear-box : {f : Fault} → in_order (box_checks q box) ≡ Err f → Err f ≡ clear_box_answer q box len
   unfolding clear_box_answer
   clear-box e = sym (in_order-refused (box_checks q box) (room_checks q len) e)
 

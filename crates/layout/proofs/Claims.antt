@@ -8,7 +8,7 @@ use mathlib.Core.Logic.{◌⊎◌}
 use mathlib.Core.List.{List}
 use lib.ListN.{length, get_or}
 use lib.IntN.{ℤ, pos}
-use Rattle.refusal.specs.declared.Answer.TheVariants.{Accepted}
+use Rattle.refusal.specs.Checks.{Accepted}
 use Rattle.elements.specs.Bytes.{byte_of}
 use Rattle.elements.specs.Values.{SixteenBit}
 use Rattle.layout.specs.declared.CubeLayout.{CubeLayout}

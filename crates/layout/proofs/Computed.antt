@@ -7,22 +7,22 @@ use mathlib.Core.List.{List, [], ◌∷◌, ◌++◌, map}
 use lib.IntN.{pos, negsuc}
 use lib.ListN.{replicate}
 use Rattle.refusal.specs.declared.Refusal.TheVariants.{CubeStart, Int8Range, Fp16Nan}
-use Rattle.refusal.specs.declared.Answer.TheVariants.{Refused}
-use Rattle.refusal.specs.Codes.{answer_code, quantity_answer}
-use Rattle.refusal.specs.Checks.{require_at, in_order, leaves, result}
+use Rattle.refusal.specs.Codes.{answer_code, answer_of}
+use Rattle.std.specs.Prelude.{Ok, Err}
+use Rattle.refusal.specs.Checks.{require_at, in_order, leaves, given, Refused, refused_at}
 use Rattle.refusal.specs.Sizes.{size_valid}
 use Rattle.elements.specs.Bytes.{element_bytes, byte_of, word_at, signed, element_at}
 use Rattle.elements.specs.Lists.{tabulate_from, tabulate}
 use Rattle.elements.specs.Values.{is_nan, value_check, value_checks_from, value_checks}
 use Rattle.layout.specs.declared.CubeLayout.{CubeLayout}
 use Rattle.layout.specs.declared.ElementBox.{ElementBox}
-use Rattle.layout.specs.declared.ByteOwner.TheVariants.{Element, Padding, Gap, Outside, Refused as NotGiven}
+use Rattle.layout.specs.declared.ByteOwner.TheVariants.{Element, Padding, Gap, Outside}
 use Rattle.layout.specs.Geometry.{layout_of, element_count, raw_index, surfaces, element_position, cube_extent}
 use Rattle.layout.specs.Boxes.{one_element, box_count, span_inside, box_inside, span_has, box_has, box_index, channel_at, row_at, column_at}
 use Rattle.layout.specs.Owners.{element, padding, outside, surface_of, row_of, column_of, byte_in_atom, in_atom, atom_owner, owner}
 use Rattle.layout.specs.Rules.{sizes_valid, whole_atoms, strides_valid, layout_checks, box_checks, storage_checks, cube_checks, admit_checks}
 use Rattle.layout.specs.Contents.{packed_byte, edited_byte, read_element, box_elements, unpacked}
-use Rattle.layout.specs.Whose.{in_extent, byte_owner, whose_answer, owner_answer}
+use Rattle.layout.specs.Whose.{in_extent, byte_owner, whose_answer}
 use Rattle.layout.specs.Calls.{pack_answer, unpack_answer, unpack_elements, write_box_answer, clear_box_answer, read_box_answer, read_box_elements, extent_quantity, position_quantity}
 
 abbrev frame : CubeLayout
@@ -71,8 +71,8 @@ pub record Computed : Type 0 where
   pub others : map answer (layout_of 3 2 40 0 128 256 16 ∷ layout_of 3 2 40 3 128 256 0 ∷ layout_of 3 2 8193 0 128 256 0 ∷ layout_of 3 0 40 0 128 256 0 ∷ []) ≡ 4 ∷ 2 ∷ 1 ∷ 1 ∷ []
   -- two at once, up to 3 and 4; for an element's position also 4 and 9
   pub double : map answer wrong ≡ 1 ∷ 2 ∷ 3 ∷ 4 ∷ 0 ∷ []
-  pub extent_double : map (λ (q : CubeLayout). answer_code (quantity_answer (extent_quantity q))) wrong ≡ 1 ∷ 2 ∷ 3 ∷ 4 ∷ 0 ∷ []
-  pub position_double : map (λ (q : CubeLayout). answer_code (quantity_answer (position_quantity q 40 0 0))) wrong ≡ 1 ∷ 2 ∷ 3 ∷ 4 ∷ 9 ∷ []
+  pub extent_double : map (λ (q : CubeLayout). answer_code (answer_of (extent_quantity q))) wrong ≡ 1 ∷ 2 ∷ 3 ∷ 4 ∷ 0 ∷ []
+  pub position_double : map (λ (q : CubeLayout). answer_code (answer_of (position_quantity q 40 0 0))) wrong ≡ 1 ∷ 2 ∷ 3 ∷ 4 ∷ 9 ∷ []
   -- 9: a box that ends with the cube is valid, one column past it is not, nor one of no rows
   pub inside : box_inside frame (record { channel = 39; row = 1; column = 1; channels = 1; rows = 1; columns = 2 }) ≡ true
   pub past : box_inside frame (record { channel = 39; row = 1; column = 1; channels = 1; rows = 1; columns = 3 }) ≡ false
@@ -110,7 +110,7 @@ pub record Computed : Type 0 where
   pub read_nan : read_box_elements (single 2 0) (one_element 0 0 0) (255 ∷ 255 ∷ replicate 30 0) (pos 32767 ∷ []) ≡ negsuc 0 ∷ []
 
 pub computed : Computed
-unfolding require_at in_order leaves tabulate_from tabulate size_valid element_bytes byte_of word_at signed element_at is_nan value_check value_checks_from value_checks element_count raw_index surfaces element_position cube_extent box_count span_inside box_inside span_has box_has box_index channel_at row_at column_at surface_of row_of column_of byte_in_atom in_atom atom_owner owner sizes_valid whole_atoms strides_valid layout_checks box_checks storage_checks cube_checks admit_checks packed_byte edited_byte read_element box_elements unpacked pack_answer unpack_answer unpack_elements write_box_answer clear_box_answer read_box_answer read_box_elements result extent_quantity position_quantity
+unfolding require_at in_order leaves tabulate_from tabulate size_valid element_bytes byte_of word_at signed element_at is_nan value_check value_checks_from value_checks element_count raw_index surfaces element_position cube_extent box_count span_inside box_inside span_has box_has box_index channel_at row_at column_at surface_of row_of column_of byte_in_atom in_atom atom_owner owner sizes_valid whole_atoms strides_valid layout_checks box_checks storage_checks cube_checks admit_checks packed_byte edited_byte read_element box_elements unpacked pack_answer unpack_answer unpack_elements write_box_answer clear_box_answer read_box_answer read_box_elements given extent_quantity position_quantity
 computed =
     record {
       position = refl;
@@ -165,27 +165,27 @@ computed =
 -- whose a byte is, as it is answered
 pub record Answered : Type 0 where
   -- the paper's element; padding past channel 40; behind a line's last atom, and behind the last line's in its surface; the last atom's last byte, and the next
-  pub own : whose_answer frame 449 ≡ Element 33 1 2 0
-  pub pad : whose_answer frame 264 ≡ Padding
-  pub between_lines : whose_answer frame 96 ≡ Gap
-  pub last_line : whose_answer frame 224 ≡ Gap
-  pub last : whose_answer frame 479 ≡ Padding
-  pub behind : whose_answer frame 480 ≡ Outside
-  pub far : whose_answer frame 18446744073709551615 ≡ Outside
+  pub own : whose_answer frame 449 ≡ Ok (Element 33 1 2 0)
+  pub pad : whose_answer frame 264 ≡ Ok Padding
+  pub between_lines : whose_answer frame 96 ≡ Ok Gap
+  pub last_line : whose_answer frame 224 ≡ Ok Gap
+  pub last : whose_answer frame 479 ≡ Ok Padding
+  pub behind : whose_answer frame 480 ≡ Ok Outside
+  pub far : whose_answer frame 18446744073709551615 ≡ Ok Outside
   -- between surfaces that are further apart than their lines
-  pub between_surfaces : whose_answer (layout_of 3 2 40 0 128 512 0) 256 ≡ Gap
+  pub between_surfaces : whose_answer (layout_of 3 2 40 0 128 512 0) 256 ≡ Ok Gap
   -- an int16 element's second byte, and the padding behind it
-  pub second : whose_answer (layout_of 1 1 17 1 32 32 0) 33 ≡ Element 16 0 0 1
-  pub padded : whose_answer (layout_of 1 1 17 1 32 32 0) 34 ≡ Padding
+  pub second : whose_answer (layout_of 1 1 17 1 32 32 0) 33 ≡ Ok (Element 16 0 0 1)
+  pub padded : whose_answer (layout_of 1 1 17 1 32 32 0) 34 ≡ Ok Padding
   -- before the start, and at it
-  pub before : whose_answer (layout_of 3 2 40 0 128 256 32) 31 ≡ Outside
-  pub first : whose_answer (layout_of 3 2 40 0 128 256 32) 32 ≡ Element 0 0 0 0
+  pub before : whose_answer (layout_of 3 2 40 0 128 256 32) 31 ≡ Ok Outside
+  pub first : whose_answer (layout_of 3 2 40 0 128 256 32) 32 ≡ Ok (Element 0 0 0 0)
   -- a start of 16 is refused, wherever the byte lies; two at once: 1 and 2, 2 and 3, 3 and 4
-  pub refused : whose_answer (layout_of 3 2 40 0 128 256 16) 0 ≡ NotGiven CubeStart 0
-  pub double : map (λ (q : CubeLayout). answer_code (owner_answer (whose_answer q 0))) wrong ≡ 1 ∷ 2 ∷ 3 ∷ 4 ∷ 0 ∷ []
+  pub refused : whose_answer (layout_of 3 2 40 0 128 256 16) 0 ≡ Err (refused_at 0 CubeStart)
+  pub double : map (λ (q : CubeLayout). answer_code (answer_of (whose_answer q 0))) wrong ≡ 1 ∷ 2 ∷ 3 ∷ 4 ∷ 0 ∷ []
 
 pub answered : Answered
-unfolding require_at in_order result size_valid element_bytes surfaces cube_extent surface_of row_of column_of byte_in_atom in_atom atom_owner owner sizes_valid whole_atoms strides_valid layout_checks in_extent byte_owner whose_answer
+unfolding require_at in_order given size_valid element_bytes surfaces cube_extent surface_of row_of column_of byte_in_atom in_atom atom_owner owner sizes_valid whole_atoms strides_valid layout_checks in_extent byte_owner whose_answer
 answered =
     record {
       own = refl;

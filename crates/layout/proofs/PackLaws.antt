@@ -7,7 +7,7 @@ use mathlib.Core.Logic.{◌⊎◌, inl, inr}
 use mathlib.Core.List.{List}
 use lib.ListN.{length, get_or}
 use lib.IntN.{ℤ, pos}
-use Rattle.refusal.specs.declared.Answer.TheVariants.{Accepted}
+use Rattle.refusal.specs.Checks.{Accepted}
 use Rattle.refusal.proofs.CheckLaws.{in_order-front, leaves-done}
 use Rattle.elements.specs.Bytes.{byte_of}
 use Rattle.elements.specs.Values.{SixteenBit, value_checks}

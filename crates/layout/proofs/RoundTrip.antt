@@ -9,7 +9,7 @@ use lib.ListN.{length, get_or}
 use lib.Seq.{ext_get_or}
 use lib.IntN.{ℤ, pos}
 use lib.Signed.{mag}
-use Rattle.refusal.specs.declared.Answer.TheVariants.{Accepted}
+use Rattle.refusal.specs.Checks.{Accepted}
 use Rattle.elements.proofs.ByteLaws.{element_at-byte_of}
 use Rattle.elements.proofs.TabulateLaws.{length-tabulate, get_d_tabulate}
 use Rattle.elements.proofs.ElementLaws.{value_valid-fits}

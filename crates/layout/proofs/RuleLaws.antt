@@ -13,9 +13,8 @@ use mathlib.Core.List.{[], ◌∷◌}
 use lib.Dec.{leb}
 use borrow.Author.Tests.{lt-ltb, le-ltb, le-leb, lt-leb, eq-eqb, ne_eqb}
 use Rattle.general.proofs.TestLaws.{and-all}
-use Rattle.refusal.specs.declared.Answer.TheVariants.{Accepted, Refused}
 use Rattle.refusal.specs.declared.Refusal.TheVariants.{Size, Precision, CubeStrides, CubeStart}
-use Rattle.refusal.specs.Checks.{in_order, require_at}
+use Rattle.refusal.specs.Checks.{in_order, require_at, Accepted, Refused}
 use Rattle.refusal.specs.Sizes.{size_valid}
 use Rattle.refusal.proofs.SizeLaws.{size-pos, size-le}
 use Rattle.layout.specs.declared.CubeLayout.{CubeLayout}

@@ -7,8 +7,7 @@ use mathlib.Core.List.{[], ◌∷◌}
 use lib.Dec.{leb}
 use borrow.Author.Tests.{ltb-true, leb-true, eqb-true}
 use Rattle.general.proofs.TestLaws.{and-all}
-use Rattle.refusal.specs.declared.Answer.TheVariants.{Accepted}
-use Rattle.refusal.specs.Checks.{in_order}
+use Rattle.refusal.specs.Checks.{in_order, Accepted}
 use Rattle.refusal.specs.Sizes.{size_valid}
 use Rattle.refusal.proofs.CheckLaws.{Held, in_order-all, require_at-held}
 use Rattle.refusal.proofs.SizeLaws.{size-pos, size-le}

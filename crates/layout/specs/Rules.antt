@@ -1,8 +1,7 @@
 -- Which settings are valid, and the order in which they are checked (scope paper, "Cells and cubes", "Refusal numbers"). Assumes nothing.
 use Rattle.std.specs.Prelude.{ℕ, ◌+◌, ◌-◌, ◌*◌, ◌%◌, Bool, ◌&&◌, List, [], ◌∷◌, ◌++◌, leb, ltb, eqb}
 use Rattle.refusal.specs.declared.Refusal.TheVariants.{Size, Precision, CubeStrides, CubeStart, BufferLength, ElementCount, Bounds}
-use Rattle.refusal.specs.declared.Answer.{Answer}
-use Rattle.refusal.specs.Checks.{require}
+use Rattle.refusal.specs.Checks.{require, Answer}
 use Rattle.refusal.specs.Sizes.{size_valid}
 use Rattle.layout.specs.declared.CubeLayout.{CubeLayout}
 use Rattle.layout.specs.declared.ElementBox.{ElementBox}

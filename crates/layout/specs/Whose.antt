@@ -1,12 +1,11 @@
 -- Whose a byte is, as the call `whose` answers it: by its owner, and where it has none by the start and the extent (scope paper, "Cells and
 -- cubes": "Bytes between lines or surfaces, and outside the extent, stay"). Assumes nothing.
-use Rattle.std.specs.Prelude.{ℕ, ◌+◌, Bool, cond, ◌&&◌, leb, ltb}
-use Rattle.refusal.specs.declared.Answer.{Answer}
-use Rattle.refusal.specs.declared.Answer.TheVariants.{Accepted, Refused as Denied}
-use Rattle.refusal.specs.Checks.{in_order, result}
+use Rattle.std.specs.Prelude.{ℕ, ◌+◌, Bool, cond, ◌&&◌, leb, ltb, Result}
+use Rattle.refusal.specs.declared.Fault.{Fault}
+use Rattle.refusal.specs.Checks.{in_order, given}
 use Rattle.layout.specs.declared.CubeLayout.{CubeLayout}
 use Rattle.layout.specs.declared.ByteOwner.{ByteOwner}
-use Rattle.layout.specs.declared.ByteOwner.TheVariants.{Element, Padding, Gap, Outside, Refused}
+use Rattle.layout.specs.declared.ByteOwner.TheVariants.{Element, Padding, Gap, Outside}
 use Rattle.layout.specs.Geometry.{cube_extent}
 use Rattle.layout.specs.Owners.{Owner, element, padding, outside, owner}
 use Rattle.layout.specs.Rules.{layout_checks}
@@ -22,13 +21,5 @@ byte_owner within padding = Padding
 byte_owner within outside = cond within Gap Outside
 
 -- whose byte p is: 1, 2, 3, 4
-unfoldable pub whose_answer : CubeLayout → ℕ → ByteOwner
-whose_answer q p = result (byte_owner (in_extent q p)) Refused (in_order (layout_checks q)) (owner q p)
-
--- its answer, for the paper's number: accepted but where the layout is refused
-abbrev pub owner_answer : ByteOwner → Answer
-owner_answer (Element c h w b) = Accepted
-owner_answer Padding = Accepted
-owner_answer Gap = Accepted
-owner_answer Outside = Accepted
-owner_answer (Refused r at) = Denied r at
+unfoldable pub whose_answer : CubeLayout → ℕ → Result ByteOwner Fault
+whose_answer q p = given (in_order (layout_checks q)) (byte_owner (in_extent q p) (owner q p))

@@ -1,8 +1,6 @@
 // Feature cubes: the types of their layouts, boxes and bytes (scope paper, "Cells and cubes"). The calls are in `layout_calls`.
 #![tactic(auto)]
 
-use refusal::Refusal;
-
 // Sizes, precision code, strides and start of a packed cube (the scope paper's "frame").
 #[derive(Clone, Copy)]
 pub struct CubeLayout {
@@ -27,12 +25,11 @@ pub struct ElementBox {
 }
 
 // Whose a byte is: a byte of an element (channel, row, column, byte); a padding byte, past the last channel in its atom; in a gap between lines or
-// surfaces; outside, before the start or past the extent; or refused with the index at fault.
-#[derive(Drop)]
+// surfaces; or outside, before the start or past the extent.
+#[derive(Clone, Copy)]
 pub enum ByteOwner {
     Element(u32, u32, u32, u32),
     Padding,
     Gap,
     Outside,
-    Refused(Refusal, usize),
 }

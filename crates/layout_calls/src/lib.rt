@@ -13,7 +13,7 @@ ghost use Rattle.layout.specs.Calls.{clear_box_answer, extent_quantity};
 ghost use Rattle.layout.specs.Whose.{whose_answer};
 
 use layout::{ByteOwner, CubeLayout, ElementBox};
-use refusal::{Answer, Quantity, Refusal};
+use refusal::{Answer, Fault, Quantity, Refusal};
 
 // `count` numbers from `first` on, at least one, all below `size`.
 pub fn span_inside(first: u32, count: u32, size: u32) -> bool
@@ -30,82 +30,69 @@ pub fn check(layout: CubeLayout) -> Answer
     ensures { result ≡ in_order (layout_checks layout) }
 {
     if !rules::sizes_valid(layout) {
-        return Answer::Refused(Refusal::Size, 0);
+        return Err(Fault(Refusal::Size, 0));
     }
     if 3 <= layout.precision {
-        return Answer::Refused(Refusal::Precision, 0);
+        return Err(Fault(Refusal::Precision, 0));
     }
     if !rules::strides_valid(layout.width, layout.height, layout.line, layout.surface) {
-        return Answer::Refused(Refusal::CubeStrides, 0);
+        return Err(Fault(Refusal::CubeStrides, 0));
     }
     if layout.start % 32 != 0 {
-        return Answer::Refused(Refusal::CubeStart, 0);
+        return Err(Fault(Refusal::CubeStart, 0));
     }
-    Answer::Accepted
+    Ok(())
 }
 
 // Bytes from the start to the end of the last atom.
 pub fn extent(layout: CubeLayout) -> Quantity
     ensures { result ≡ extent_quantity layout }
 {
-    match check(layout) {
-        Answer::Refused(refusal, at) => Quantity::Refused(refusal, at),
-        Answer::Accepted => Quantity::Is(measure::extent_bytes(layout)),
-    }
+    check(layout)?;
+    Ok(measure::extent_bytes(layout))
 }
 
 // Whose the byte at a position is. Checks 1 to 4.
-pub fn whose(layout: CubeLayout, position: u64) -> ByteOwner
+pub fn whose(layout: CubeLayout, position: u64) -> Result<ByteOwner, Fault>
     ensures { result ≡ whose_answer layout position }
 {
-    match check(layout) {
-        Answer::Refused(refusal, at) => ByteOwner::Refused(refusal, at),
-        Answer::Accepted => owners::byte_owner(layout, position),
-    }
+    check(layout)?;
+    Ok(owners::byte_owner(layout, position))
 }
 
 // Checks 1 to 4, 9.
 pub fn check_box(layout: CubeLayout, b: ElementBox) -> Answer
     ensures { result ≡ in_order (box_checks layout b) }
 {
-    let a = check(layout);
-    let Answer::Accepted = a else {
-        return a;
-    };
+    check(layout)?;
     if !rules::box_inside(layout, b) {
-        return Answer::Refused(Refusal::Bounds, 0);
+        return Err(Fault(Refusal::Bounds, 0));
     }
-    Answer::Accepted
+    Ok(())
 }
 
 // Checks 1 to 4, 9, 5 of a call on a box that lends a buffer of `len` bytes and no elements.
 pub fn check_room(layout: CubeLayout, b: ElementBox, len: usize) -> Answer
     ensures { result ≡ clear_box_answer layout b len }
 {
-    let a = check_box(layout, b);
-    let Answer::Accepted = a else {
-        return a;
-    };
+    check_box(layout, b)?;
     let end = measure::end(layout);
     if (len as u64) < end {
-        return Answer::Refused(Refusal::BufferLength, 0);
+        return Err(Fault(Refusal::BufferLength, 0));
     }
-    Answer::Accepted
+    Ok(())
 }
 
 // Checks 1 to 4, 9, 6, 5 of a call that lends `given` elements for a box and a buffer of `len` bytes.
 pub fn admit(layout: CubeLayout, b: ElementBox, given: usize, len: usize) -> Answer
     ensures { result ≡ in_order (admit_checks layout b given len) }
 {
-    let a = check_box(layout, b);
-    let Answer::Accepted = a else {
-        return a;
-    };
+    check_box(layout, b)?;
     if given as u64 != measure::box_count(b) {
-        return Answer::Refused(Refusal::ElementCount, 0);
+        return Err(Fault(Refusal::ElementCount, 0));
     }
     if (len as u64) < measure::end(layout) {
-        return Answer::Refused(Refusal::BufferLength, 0);
+        return Err(Fault(Refusal::BufferLength, 0));
     }
-    Answer::Accepted
+    Ok(())
 }

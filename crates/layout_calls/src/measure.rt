@@ -1,7 +1,6 @@
 // The extent of a cube, and the elements of a box.
 ghost use Rattle.std.specs.Prelude.{◌≡◌, ◌+◌, ◌≤◌};
-ghost use Rattle.refusal.specs.declared.Answer.TheVariants.{Accepted};
-ghost use Rattle.refusal.specs.Checks.{in_order};
+ghost use Rattle.refusal.specs.Checks.{in_order, Accepted};
 ghost use Rattle.layout.specs.Geometry.{surfaces, cube_extent};
 ghost use Rattle.layout.specs.Boxes.{box_count};
 ghost use Rattle.layout.specs.Rules.{layout_checks};

@@ -1,7 +1,6 @@
 // Whose a byte of a valid layout is, by division.
 ghost use Rattle.std.specs.Prelude.{◌≡◌, true, ◌+◌, ◌≤◌, ◌<◌};
-ghost use Rattle.refusal.specs.declared.Answer.TheVariants.{Accepted};
-ghost use Rattle.refusal.specs.Checks.{in_order};
+ghost use Rattle.refusal.specs.Checks.{in_order, Accepted};
 ghost use Rattle.layout.specs.Geometry.{surfaces, cube_extent};
 ghost use Rattle.layout.specs.Owners.{atom_owner, owner};
 ghost use Rattle.layout.specs.Rules.{layout_checks};

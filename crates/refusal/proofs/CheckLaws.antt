@@ -10,12 +10,15 @@
 --     leaves-ap, leaves-same              a part of what a call leaves
 --     given-accepted, given-refused       what a call gives, by its answer
 --     given-ok, given-err                 a value was given: the call was accepted, and it is its value; or it was refused so
+--     handed-on                           what `?` returns where a call was refused
 use Prim.Native.Nat.{ℕ}
 use native.Mathlib.Omega.{arith}
 use mathlib.Core.Path.{◌≡◌, refl, sym, ap, ◌∙◌}
 use mathlib.Core.Bool.{Bool, true, false}
 use mathlib.Core.List.{List, [], ◌∷◌, ◌++◌}
 use Rattle.std.specs.Prelude.{Result, Ok, Err}
+use Rattle.std.specs.Result.{IsErrAnd}
+use Rattle.std.proofs.lemmas.Result.{err_from_is_err_and}
 use Rattle.refusal.specs.declared.Refusal.{Refusal}
 use Rattle.refusal.specs.declared.Fault.{Fault}
 use Rattle.refusal.specs.Checks.{Answer, Accepted, Refused, refused_at, require_at, in_order, leaves, given}
@@ -145,3 +148,7 @@ pub given-err : {A : Type 0} (a : Answer) (v : A) (f : Fault) → given a v ≡ 
 unfolding given
 given-err (Ok _) v f e = absurd (let z : ◌≡◌ {A = ℕ} 0 1 = cc in omega arith)
 given-err (Err f') v f e = ap (λ (x : Fault). Err x) cc
+
+-- ---- a refusal handed on by `?`
+pub handed-on : {A : Type 0} (r : Result A Fault) {f : Fault} → IsErrAnd r (λ e. e ≡ f) → r ≡ Err f
+handed-on r w = let v = err_from_is_err_and r w in v.1 ∙ ap (λ (x : Fault). Err x) v.2

@@ -1,23 +1,21 @@
 -- `layout_calls::admit` meets its contract: it makes the definition's checks in their order. Assumes nothing.
 use Prim.Native.Nat.{ℕ, ◌≤◌, ◌<◌}
 use mathlib.Core.Path.{◌≡◌, sym, subst, ◌∙◌}
-use Rattle.refusal.specs.declared.Answer.TheVariants.{Accepted}
-use Rattle.refusal.specs.Checks.{in_order}
+use Rattle.refusal.specs.Checks.{in_order, Accepted}
+use Rattle.refusal.proofs.CheckLaws.{handed-on}
 use Rattle.layout.specs.Boxes.{box_count}
 use Rattle.layout.specs.Rules.{box_checks}
 use Rattle.layout.proofs.CallLaws.{admit-box, admit-count, admit-room, admit-valid, box-layout, box-layout-valid, box_checks-valid, box-counts}
 use Rattle.layout_calls.proofs.admit.Goals as goal
 
-held : (c : goal.In-Accepted) → in_order (box_checks c.args.layout c.args.b) ≡ Accepted
-held c = sym c.check_box-a.ensures ∙ c.in-Accepted.is
+held : (c : goal.In_ok-check_box) → in_order (box_checks c.args.layout c.args.b) ≡ Accepted
+held c = sym c.check_box.ensures ∙ c.in_ok-check_box.was
 
 counted : (c : goal.Else-given-box_count) → c.args.given ≡ box_count c.args.b
 counted c = c.if-given-box_count.false ∙ c.box_count.ensures
 
-pub returns-in_default : goal.returns-in_default
-returns-in_default c = let d = c in
-    let a = d.args in
-    c.in_default.is ∙ admit-box a.layout a.b a.given a.len (sym d.check_box-a.ensures ∙ c.in_default.is)
+pub returns-in_err-check_box : goal.returns-in_err-check_box
+returns-in_err-check_box c = let a = c.args in handed-on c.from_residual.result c.from_residual.ensures.1 ∙ admit-box a.layout a.b a.given a.len (sym c.check_box.ensures ∙ c.in_err-check_box.was)
 
 pub box_count-requires : goal.box_count-requires
 box_count-requires c = let a = c.args in

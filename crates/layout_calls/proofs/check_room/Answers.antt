@@ -1,19 +1,17 @@
 -- `layout_calls::check_room` meets its contract: it makes the definition's checks in their order. Assumes nothing.
 use Prim.Native.Nat.{ℕ, ◌≤◌, ◌<◌}
 use mathlib.Core.Path.{◌≡◌, sym, subst, ◌∙◌}
-use Rattle.refusal.specs.declared.Answer.TheVariants.{Accepted}
-use Rattle.refusal.specs.Checks.{in_order}
+use Rattle.refusal.specs.Checks.{in_order, Accepted}
+use Rattle.refusal.proofs.CheckLaws.{handed-on}
 use Rattle.layout.specs.Rules.{box_checks}
 use Rattle.layout.proofs.CallLaws.{box-layout, clear-box, clear_room, clear-valid}
 use Rattle.layout_calls.proofs.check_room.Goals as goal
 
-held : (c : goal.In-Accepted) → in_order (box_checks c.args.layout c.args.b) ≡ Accepted
-held c = sym c.check_box-a.ensures ∙ c.in-Accepted.is
+held : (c : goal.In_ok-check_box) → in_order (box_checks c.args.layout c.args.b) ≡ Accepted
+held c = sym c.check_box.ensures ∙ c.in_ok-check_box.was
 
-pub returns-in_default : goal.returns-in_default
-returns-in_default c = let d = c in
-    let a = d.args in
-    c.in_default.is ∙ clear-box a.layout a.b a.len (sym d.check_box-a.ensures ∙ c.in_default.is)
+pub returns-in_err-check_box : goal.returns-in_err-check_box
+returns-in_err-check_box c = let a = c.args in handed-on c.from_residual.result c.from_residual.ensures.1 ∙ clear-box a.layout a.b a.len (sym c.check_box.ensures ∙ c.in_err-check_box.was)
 
 pub end-end-requires : goal.end-end-requires
 end-end-requires c = let a = c.args in box-layout a.layout a.b (held c)

@@ -1,18 +1,15 @@
 -- `layout_calls::extent` meets its contract: it checks, and measures an accepted layout. Assumes nothing.
 use mathlib.Core.Path.{sym, ap, ◌∙◌}
-use Rattle.refusal.proofs.CheckLaws.{result-given, result-refused}
-use Rattle.refusal.specs.declared.Quantity.TheVariants.{Is}
+use Rattle.std.specs.Prelude.{Ok}
+use Rattle.refusal.proofs.CheckLaws.{given-accepted, given-refused, handed-on}
 use Rattle.layout.specs.Geometry.{cube_extent}
 use Rattle.layout.specs.Calls.{extent_quantity}
 use Rattle.layout_calls.proofs.extent.Goals as goal
 
-pub returns-in-Refused : goal.returns-in-Refused
+pub returns-in_err-check : goal.returns-in_err-check
 unfolding extent_quantity
-returns-in-Refused c = let d = c in
-    sym (result-refused _ _ (cube_extent d.args.layout) (sym d.check.ensures ∙ c.in-Refused.is))
+returns-in_err-check c = handed-on c.from_residual.result c.from_residual.ensures.1 ∙ sym (given-refused (cube_extent c.args.layout) (sym c.check.ensures ∙ c.in_err-check.was))
 
-pub returns-in-Accepted : goal.returns-in-Accepted
+pub returns : goal.returns
 unfolding extent_quantity
-returns-in-Accepted c = let d = c in
-    let q = d.args.layout in
-    ap Is c.extent_bytes.ensures ∙ sym (result-given _ _ (cube_extent q) (sym d.check.ensures ∙ c.in-Accepted.is))
+returns c = ap Ok c.extent_bytes.ensures ∙ sym (given-accepted (cube_extent c.args.layout) (sym c.check.ensures ∙ c.in_ok-check.was))

@@ -1,18 +1,14 @@
 -- `layout_calls::whose` meets its contract: it checks, and finds the owner in an accepted layout. Assumes nothing.
-use mathlib.Core.Path.{sym, ◌∙◌}
-use Rattle.refusal.proofs.CheckLaws.{result-given, result-refused}
-use Rattle.layout.specs.Owners.{owner}
+use mathlib.Core.Path.{sym, ap, ◌∙◌}
+use Rattle.std.specs.Prelude.{Ok}
+use Rattle.refusal.proofs.CheckLaws.{given-accepted, given-refused, handed-on}
 use Rattle.layout.specs.Whose.{whose_answer}
 use Rattle.layout_calls.proofs.whose.Goals as goal
 
-pub returns-in-Refused : goal.returns-in-Refused
+pub returns-in_err-check : goal.returns-in_err-check
 unfolding whose_answer
-returns-in-Refused c = let d = c in
-    let a = d.args in
-    sym (result-refused _ _ (owner a.layout a.position) (sym d.check.ensures ∙ c.in-Refused.is))
+returns-in_err-check c = handed-on c.from_residual.result c.from_residual.ensures.1 ∙ sym (given-refused _ (sym c.check.ensures ∙ c.in_err-check.was))
 
-pub returns-in-Accepted : goal.returns-in-Accepted
+pub returns : goal.returns
 unfolding whose_answer
-returns-in-Accepted c = let d = c in
-    let a = d.args in
-    c.byte_owner.ensures ∙ sym (result-given _ _ (owner a.layout a.position) (sym d.check.ensures ∙ c.in-Accepted.is))
+returns c = ap Ok c.byte_owner.ensures ∙ sym (given-accepted _ (sym c.check.ensures ∙ c.in_ok-check.was))
