@@ -16,31 +16,25 @@ use refusal::{Answer, Quantity, Refusal};
 pub fn format(code: u32) -> PixelFormat
     ensures { result ≡ format_of code }
 {
-    if 16 < code {
-        return PixelFormat {
-            channels: 0,
-            bytes: 0,
-            precision: 0,
-            offsets: 0,
-        };
-    }
-    table::format_of(code)
+    table::format_of(code).unwrap_or(PixelFormat {
+        channels: 0,
+        bytes: 0,
+        precision: 0,
+        offsets: 0,
+    })
 }
 
 // Checks 19, 1, 20, 21, 22.
+#[tactic(auto, unfolding(pixels::specs::Settings::setting_answer, pixels::specs::Settings::setting_checks, refusal::specs::Checks::in_order, refusal::specs::Checks::require_at))]
 pub fn setting(image: PixelSetting) -> Answer
     ensures { result ≡ setting_answer image }
 {
-    if 16 < image.format {
+    let Some(format) = table::format_of(image.format) else {
         return Answer::Refused(Refusal::PixelFormat, 0);
-    }
-    if !refusal::size_valid(8192, image.width) {
+    };
+    if !refusal::size_valid(8192, image.width) || !refusal::size_valid(8192, image.height) {
         return Answer::Refused(Refusal::Size, 0);
     }
-    if !refusal::size_valid(8192, image.height) {
-        return Answer::Refused(Refusal::Size, 0);
-    }
-    let format = table::format_of(image.format);
     if !rules::kind_valid(image, format) {
         return Answer::Refused(Refusal::PixelKind, 0);
     }
@@ -58,23 +52,21 @@ fn pixel_start(image: PixelSetting, x: u32, y: u32) -> u64
     requires { (setting_answer image ≡ Accepted) × (x < image.width) × (y < image.height) }
     ensures { result ≡ pixel_position image x y }
 {
-    let format = table::format_of(image.format);
+    let format = format(image.format);
     let lines = y as u64 * image.line as u64;
     let pixels = x as u64 + image.offset as u64;
     image.start as u64 + lines + pixels * format.bytes as u64
 }
 
 // Checks 19, 1, 20, 21, 22, 23, and the byte at which pixel (x, y) begins.
+#[tactic(auto, unfolding(pixels::specs::Settings::position_quantity, pixels::specs::Settings::setting_answer, pixels::specs::Settings::setting_checks, refusal::specs::Checks::in_order, refusal::specs::Checks::require_at, refusal::specs::Checks::result))]
 pub fn position(image: PixelSetting, x: u32, y: u32) -> Quantity
     ensures { result ≡ position_quantity image x y }
 {
     match setting(image) {
         Answer::Refused(refusal, at) => Quantity::Refused(refusal, at),
         Answer::Accepted => {
-            if image.width <= x {
-                return Quantity::Refused(Refusal::PixelOutside, 0);
-            }
-            if image.height <= y {
+            if image.width <= x || image.height <= y {
                 return Quantity::Refused(Refusal::PixelOutside, 0);
             }
             Quantity::Is(pixel_start(image, x, y))

@@ -1,5 +1,5 @@
 // The pixel formats as one constant table. A pixel's components are numbered from the lowest address.
-ghost use Rattle.std.specs.Prelude.{◌≡◌, ◌≤◌};
+ghost use Rattle.std.specs.Prelude.{◌≡◌, ◌≤◌, ◌<◌, MatchOption};
 ghost use Rattle.pixels.specs.Formats.{format_of};
 
 use pixels::PixelFormat;
@@ -127,10 +127,9 @@ const FORMATS: [PixelFormat; 17] = [
     },
 ];
 
-// The format of a code.
-pub(crate) fn format_of(code: u32) -> PixelFormat
-    requires { code ≤ 16 }
-    ensures { result ≡ format_of code }
+// The format of a code; a code past the last has none.
+pub(crate) fn format_of(code: u32) -> Option<PixelFormat>
+    ensures { MatchOption result (16 < code) (λ format. (code ≤ 16) × (format ≡ format_of code)) }
 {
-    FORMATS[code as usize]
+    FORMATS.get(code as usize).copied()
 }

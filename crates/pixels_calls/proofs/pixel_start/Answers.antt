@@ -21,14 +21,11 @@ sum_lt : (q : PixelSetting) (x y : ℕ) (f : PixelFormat)
     → q.start + y * q.line + (x + q.offset) * f.bytes < 2 ^ 46
 sum_lt q x y f e v hx hy l s = subst⁻¹ (λ (n : ℕ). n < 2 ^ 46) (sum_is q x y f e) (position_lt q (valid q v) x y hx hy l s)
 
-pub format_of-format-requires : goal.format_of-format-requires
-format_of-format-requires c = (valid c.args.image c.requires.0).known
-
 pub overflow_mul-result : goal.overflow_mul-result
-overflow_mul-result c = omega (arith, sum_lt c.args.image c.args.x c.args.y c.format_of-format.result c.format_of-format.ensures c.requires.0 c.requires.1 c.requires.2 (omega arith) (omega arith))
+overflow_mul-result c = omega (arith, sum_lt c.args.image c.args.x c.args.y c.format-format.result c.format-format.ensures c.requires.0 c.requires.1 c.requires.2 (omega arith) (omega arith))
 
 pub overflow_add-result-2 : goal.overflow_add-result-2
-overflow_add-result-2 c = omega (arith, sum_lt c.args.image c.args.x c.args.y c.format_of-format.result c.format_of-format.ensures c.requires.0 c.requires.1 c.requires.2 (omega arith) (omega arith))
+overflow_add-result-2 c = omega (arith, sum_lt c.args.image c.args.x c.args.y c.format-format.result c.format-format.ensures c.requires.0 c.requires.1 c.requires.2 (omega arith) (omega arith))
 
 pub returns : goal.returns
-returns c = sum_is c.args.image c.args.x c.args.y c.format_of-format.result c.format_of-format.ensures
+returns c = sum_is c.args.image c.args.x c.args.y c.format-format.result c.format-format.ensures
