@@ -4,9 +4,9 @@ use Prim.Native.Nat.{ℕ}
 use mathlib.Core.Path.{◌≡◌, refl}
 use mathlib.Core.List.{[], ◌∷◌, map}
 use Rattle.refusal.specs.declared.Refusal.TheVariants.{PixelStrides, PixelOutside}
-use Rattle.refusal.specs.declared.Quantity.TheVariants.{Is, Refused as NotGiven}
-use Rattle.refusal.specs.Codes.{answer_code, quantity_answer}
-use Rattle.refusal.specs.Checks.{require_at, in_order, result}
+use Rattle.std.specs.Prelude.{Ok, Err}
+use Rattle.refusal.specs.Codes.{answer_code, answer_of}
+use Rattle.refusal.specs.Checks.{require_at, in_order, given, refused_at}
 use Rattle.refusal.specs.Sizes.{size_valid}
 use Rattle.pixels.specs.declared.PixelSetting.{PixelSetting}
 use Rattle.pixels.specs.Formats.{format_table, format_in, format_of}
@@ -31,7 +31,7 @@ answer q = answer_code (setting_answer q)
 
 -- the answer to a position asked of pixel (9, 9), which is outside
 abbrev outside : PixelSetting → ℕ
-outside q = answer_code (quantity_answer (position_quantity q 9 9))
+outside q = answer_code (answer_of (position_quantity q 9 9))
 
 pub record Computed : Type 0 where
   -- T_R8 is valid; a line holds its pixels exactly
@@ -49,14 +49,14 @@ pub record Computed : Type 0 where
   -- code 5 else: 32 pixels of 2 bytes fill a line of 64, 33 do not; one channel; X offsets to 15; int16 is told before X offset 16
   pub float : map answer (image 5 17 2 1 2 15 0 64 ∷ image 5 18 2 1 2 15 0 64 ∷ image 5 17 2 4 2 15 0 64 ∷ image 5 16 2 1 2 16 0 64 ∷ image 5 16 2 1 1 16 0 64 ∷ []) ≡ 0 ∷ 22 ∷ 20 ∷ 21 ∷ 20 ∷ []
   -- pixel (2, 1) of T_A8B8G8R8 with X offset 3: 64 + 96 + 5 · 4; the offset is counted in pixels
-  pub position : position_quantity (image 12 3 2 4 0 3 64 96) 2 1 ≡ Is 180
+  pub position : position_quantity (image 12 3 2 4 0 3 64 96) 2 1 ≡ Ok 180
   -- a pixel outside, by its column and by its row; a position, two at once: 19 and 1, 1 and 20, 20 and 21, 21 and 22, 22 and 23
-  pub column : position_quantity (image 12 3 2 4 0 3 64 96) 3 1 ≡ NotGiven PixelOutside 0
-  pub row : position_quantity (image 12 3 2 4 0 3 64 96) 2 2 ≡ NotGiven PixelOutside 0
-  pub strides : position_quantity (image 12 3 2 4 0 3 16 96) 3 1 ≡ NotGiven PixelStrides 0
+  pub column : position_quantity (image 12 3 2 4 0 3 64 96) 3 1 ≡ Err (refused_at 0 PixelOutside)
+  pub row : position_quantity (image 12 3 2 4 0 3 64 96) 2 2 ≡ Err (refused_at 0 PixelOutside)
+  pub strides : position_quantity (image 12 3 2 4 0 3 16 96) 3 1 ≡ Err (refused_at 0 PixelStrides)
   pub position_double : map outside (image 17 0 2 1 0 31 64 64 ∷ image 0 0 2 2 0 31 64 64 ∷ image 0 3 2 2 0 32 64 64 ∷ image 0 3 2 1 0 32 16 64 ∷ image 0 3 2 1 0 31 16 64 ∷ []) ≡ 19 ∷ 1 ∷ 20 ∷ 21 ∷ 22 ∷ []
 
 pub computed : Computed
-unfolding require_at in_order result size_valid format_table format_in format_of kind_valid strides_valid setting_checks setting_answer pixel_position position_quantity
+unfolding require_at in_order given size_valid format_table format_in format_of kind_valid strides_valid setting_checks setting_answer pixel_position position_quantity
 computed =
     record { accepted = refl; single = refl; double = refl; precisions = refl; rows = refl; float = refl; position = refl; column = refl; row = refl; strides = refl; position_double = refl }

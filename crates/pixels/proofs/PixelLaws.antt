@@ -5,8 +5,8 @@
 use Prim.Native.Nat.{ℕ, ◌+◌, ◌*◌, ◌≤◌, ◌<◌}
 use mathlib.Core.Path.{◌≡◌, sym, ap, subst⁻¹, ◌∙◌}
 use mathlib.Core.Logic.{◌↔◌}
-use Rattle.refusal.specs.declared.Answer.TheVariants.{Accepted}
-use Rattle.refusal.specs.declared.Quantity.TheVariants.{Is}
+use Rattle.std.specs.Prelude.{Ok}
+use Rattle.refusal.specs.Checks.{Accepted}
 use Rattle.pixels.specs.declared.PixelSetting.{PixelSetting}
 use Rattle.pixels.specs.Settings.{pixel_bytes, setting_answer, pixel_position, position_quantity}
 use Rattle.pixels.specs.Places.{InImage}
@@ -15,10 +15,10 @@ use Rattle.pixels.proofs.Valid.{valid}
 use Rattle.pixels.proofs.PositionLaws.{line-le-position, position-le-line, position-own}
 
 module _ (q : PixelSetting) where
-  pub pixel-exactly : (x y p : ℕ) → (position_quantity q x y ≡ Is p) ↔ ((setting_answer q ≡ Accepted) × InImage q x y × (p ≡ pixel_position q x y))
-  pixel-exactly x y p = (position-given q x y p, λ t. sym (position-is q x y t.0 t.1.x_lt t.1.y_lt) ∙ sym (ap Is t.2))
+  pub pixel-exactly : (x y p : ℕ) → (position_quantity q x y ≡ Ok p) ↔ ((setting_answer q ≡ Accepted) × InImage q x y × (p ≡ pixel_position q x y))
+  pixel-exactly x y p = (position-given q x y p, λ t. sym (position-is q x y t.0 t.1.x_lt t.1.y_lt) ∙ sym (ap Ok t.2))
 
-  pub pixel-in-line : (x y p : ℕ) → position_quantity q x y ≡ Is p → (q.start + y * q.line ≤ p) × (p + pixel_bytes q ≤ q.start + (y + 1) * q.line)
+  pub pixel-in-line : (x y p : ℕ) → position_quantity q x y ≡ Ok p → (q.start + y * q.line ≤ p) × (p + pixel_bytes q ≤ q.start + (y + 1) * q.line)
   pixel-in-line x y p e =
       let t = position-given q x y p e in
       let ok = valid q t.0 in (
@@ -26,7 +26,7 @@ module _ (q : PixelSetting) where
         subst⁻¹ (λ (n : ℕ). n + pixel_bytes q ≤ q.start + (y + 1) * q.line) t.2 (position-le-line q ok x y t.1.x_lt),
       )
 
-  pub pixel-own : (x y p b x' y' p' b' : ℕ) → position_quantity q x y ≡ Is p → position_quantity q x' y' ≡ Is p'
+  pub pixel-own : (x y p b x' y' p' b' : ℕ) → position_quantity q x y ≡ Ok p → position_quantity q x' y' ≡ Ok p'
       → b < pixel_bytes q → b' < pixel_bytes q → p + b ≡ p' + b' → (x ≡ x') × (y ≡ y') × (b ≡ b')
   pixel-own x y p b x' y' p' b' e e' h h' same =
       let t = position-given q x y p e in

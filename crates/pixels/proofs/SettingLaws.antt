@@ -9,13 +9,12 @@ use mathlib.Core.List.{[], ◌∷◌}
 use lib.Dec.{ltb}
 use borrow.Author.Tests.{lt-ltb, le-ltb, le-leb, lt-leb, ltb-true}
 use Rattle.general.proofs.TestLaws.{and-all}
-use Rattle.refusal.specs.declared.Answer.TheVariants.{Accepted, Refused}
-use Rattle.refusal.specs.declared.Refusal.{Refusal}
+use Rattle.std.specs.Prelude.{Ok, Err}
+use Rattle.refusal.specs.declared.Fault.{Fault}
 use Rattle.refusal.specs.declared.Refusal.TheVariants.{Size, PixelFormat as FormatCode, PixelKind, XOffset, PixelStrides, PixelOutside}
-use Rattle.refusal.specs.declared.Quantity.TheVariants.{Is, Refused as NotGiven}
-use Rattle.refusal.specs.Checks.{in_order, require_at}
+use Rattle.refusal.specs.Checks.{in_order, require_at, Accepted, Refused, refused_at}
 use Rattle.refusal.specs.Sizes.{size_valid}
-use Rattle.refusal.proofs.CheckLaws.{Held, in_order-all, require_at-held, in_order-nil, in_order-next, in_order-stop, in_order-passed, in_order-refused, in_order-front, in_order-back, result-given, result-refused, quantity_given}
+use Rattle.refusal.proofs.CheckLaws.{Held, in_order-all, require_at-held, in_order-nil, in_order-next, in_order-stop, in_order-passed, in_order-refused, in_order-front, in_order-back, given-accepted, given-refused, given-ok}
 use Rattle.pixels.specs.declared.PixelSetting.{PixelSetting}
 use Rattle.pixels.specs.Formats.{format_of}
 use Rattle.pixels.specs.Places.{InImage}
@@ -60,38 +59,38 @@ module _ (q : PixelSetting) where
 -- ---- check 23, and the position
 
 module _ (q : PixelSetting) (x y : ℕ) where
-  pub position-refused : {r : Refusal} {i : ℕ} → setting_answer q ≡ Refused r i → NotGiven r i ≡ position_quantity q x y
+  pub position-refused : {f : Fault} → setting_answer q ≡ Err f → Err f ≡ position_quantity q x y
   unfolding position_quantity setting_answer
-  position-refused e = sym (result-refused _ _ _ (in_order-refused (setting_checks q) _ e))
+  position-refused e = sym (given-refused _ (in_order-refused (setting_checks q) _ e))
 
   module _ (ok : setting_answer q ≡ Accepted) where
-    pub position-x : q.width ≤ x → NotGiven PixelOutside 0 ≡ position_quantity q x y
+    pub position-x : q.width ≤ x → Err (refused_at 0 PixelOutside) ≡ position_quantity q x y
     unfolding position_quantity setting_answer
-    position-x h = sym (result-refused _ _ _ (in_order-passed (setting_checks q) _ ok ∙ in_order-stop 0 PixelOutside _ (rw (le-ltb x q.width h))))
+    position-x h = sym (given-refused _ (in_order-passed (setting_checks q) _ ok ∙ in_order-stop 0 PixelOutside _ (rw (le-ltb x q.width h))))
 
     module _ (inside : x < q.width) where
-      pub position-y : q.height ≤ y → NotGiven PixelOutside 0 ≡ position_quantity q x y
+      pub position-y : q.height ≤ y → Err (refused_at 0 PixelOutside) ≡ position_quantity q x y
       unfolding position_quantity setting_answer
       position-y h =
           sym
-          (result-refused _ _ _
+          (given-refused _
           (in_order-passed (setting_checks q) _ ok
           ∙ in_order-stop 0 PixelOutside _ (rw (lt-ltb x q.width inside, le-ltb y q.height h))))
 
-      pub position-is : y < q.height → Is (pixel_position q x y) ≡ position_quantity q x y
+      pub position-is : y < q.height → Ok (pixel_position q x y) ≡ position_quantity q x y
       unfolding position_quantity setting_answer
       position-is h =
           sym
-          (result-given _ _ _
+          (given-accepted _
           (in_order-passed (setting_checks q) _ ok
           ∙ in_order-next 0 PixelOutside _ (rw (lt-ltb x q.width inside, lt-ltb y q.height h))
           ∙ in_order-nil))
 
   -- a position is given only of a pixel of an accepted image
-  pub position-given : (p : ℕ) → position_quantity q x y ≡ Is p → (setting_answer q ≡ Accepted) × InImage q x y × (p ≡ pixel_position q x y)
+  pub position-given : (p : ℕ) → position_quantity q x y ≡ Ok p → (setting_answer q ≡ Accepted) × InImage q x y × (p ≡ pixel_position q x y)
   unfolding position_quantity setting_answer Held
   position-given p e =
-      let g = quantity_given _ (pixel_position q x y) p e in
+      let g = given-ok _ (pixel_position q x y) p e in
       let held = in_order-all _ (in_order-back (setting_checks q) _ g.0) in
       let inside = and-all (ltb x q.width) (ltb y q.height ∷ []) (require_at-held _ _ _ held.0) in (
         in_order-front (setting_checks q) _ g.0,

@@ -7,7 +7,7 @@ use mathlib.Core.List.{[], ◌∷◌}
 use lib.Dec.{leb, eqb}
 use borrow.Author.Tests.{leb-true, eqb-true, le-leb, eq-eqb}
 use Rattle.general.proofs.TestLaws.{and-all}
-use Rattle.refusal.specs.declared.Answer.TheVariants.{Accepted}
+use Rattle.refusal.specs.Checks.{Accepted}
 use Rattle.refusal.specs.Sizes.{size_valid}
 use Rattle.refusal.proofs.CheckLaws.{Held, in_order-all, require_at-held}
 use Rattle.refusal.proofs.SizeLaws.{size-pos, size-le, size-true}

@@ -2,9 +2,7 @@
 -- whole numbers: nothing wraps. Assumes nothing.
 use Rattle.std.specs.Prelude.{ℕ, ◌+◌, ◌*◌, ◌%◌, Bool, ◌&&◌, List, [], ◌∷◌, ◌++◌, leb, ltb, eqb}
 use Rattle.refusal.specs.declared.Refusal.TheVariants.{Size, PixelFormat as FormatCode, PixelKind, XOffset, PixelStrides, PixelOutside}
-use Rattle.refusal.specs.declared.Answer.{Answer}
-use Rattle.refusal.specs.declared.Quantity.{Quantity}
-use Rattle.refusal.specs.Checks.{require, in_order, quantity}
+use Rattle.refusal.specs.Checks.{require, in_order, quantity, Answer, Quantity}
 use Rattle.refusal.specs.Sizes.{size_valid}
 use Rattle.pixels.specs.declared.PixelSetting.{PixelSetting}
 use Rattle.pixels.specs.Formats.{format_of}

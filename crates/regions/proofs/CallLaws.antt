@@ -14,11 +14,10 @@ use lib.ListN.{length}
 use lib.IntN.{ℤ}
 use borrow.Author.Tests.{lt-ltb, ne_eqb}
 use Rattle.general.proofs.TestLaws.{and_both}
-use Rattle.refusal.specs.declared.Answer.{Answer}
-use Rattle.refusal.specs.declared.Answer.TheVariants.{Accepted, Refused}
-use Rattle.refusal.specs.declared.Refusal.{Refusal}
+use Rattle.std.specs.Prelude.{Err}
+use Rattle.refusal.specs.declared.Fault.{Fault}
 use Rattle.refusal.specs.declared.Refusal.TheVariants.{Slot as SlotRefusal, OwnerId}
-use Rattle.refusal.specs.Checks.{in_order, leaves}
+use Rattle.refusal.specs.Checks.{in_order, leaves, Answer, Accepted, Refused}
 use Rattle.refusal.proofs.CheckLaws.{in_order-front, in_order-back, in_order-passed, in_order-refused, in_order-next, in_order-stop, in_order-then, leaves-done, leaves-before}
 use Rattle.elements.specs.Values.{value_checks}
 use Rattle.layout.specs.declared.ElementBox.{ElementBox}
@@ -129,7 +128,7 @@ module _ (t : RegionTable) (n id id' : ℕ) (other : id ≢ id') where
 
 -- ---- place
 module _ (t : RegionTable) (n id : ℕ) (g : Rectangle) where
-  pub place_kept : {r : Refusal} {i : ℕ} → place_answer t n id g ≡ Refused r i → t ≡ place_table t n id g
+  pub place_kept : {f : Fault} → place_answer t n id g ≡ Err f → t ≡ place_table t n id g
   unfolding place_table
   place_kept e = sym (leaves-before _ t e)
 
@@ -139,7 +138,7 @@ module _ (t : RegionTable) (n id : ℕ) (g : Rectangle) where
 
 -- ---- release, the table
 module _ (t : RegionTable) (n id len : ℕ) where
-  pub release-kept : {r : Refusal} {i : ℕ} → release_answer t n id len ≡ Refused r i → t ≡ release_table t n id len
+  pub release-kept : {f : Fault} → release_answer t n id len ≡ Err f → t ≡ release_table t n id len
   unfolding release_table
   release-kept e = sym (leaves-before _ t e)
 

@@ -6,10 +6,9 @@ use mathlib.Core.List.{List, [], ◌∷◌, ◌++◌, map}
 use lib.IntN.{ℤ, pos, negsuc}
 use lib.ListN.{get_or, replicate}
 use Rattle.refusal.specs.declared.Refusal.TheVariants.{Int8Range, OwnerId, Fp16Nan}
-use Rattle.refusal.specs.declared.Answer.TheVariants.{Refused}
-use Rattle.refusal.specs.declared.Quantity.TheVariants.{Is}
-use Rattle.refusal.specs.Codes.{answer_code, quantity_answer}
-use Rattle.refusal.specs.Checks.{require_at, in_order, leaves, result}
+use Rattle.std.specs.Prelude.{Ok, Err}
+use Rattle.refusal.specs.Codes.{answer_code, answer_of}
+use Rattle.refusal.specs.Checks.{require_at, in_order, leaves, given, Refused, refused_at}
 use Rattle.refusal.specs.Sizes.{size_valid}
 use Rattle.elements.specs.Bytes.{element_bytes, byte_of, word_at, signed, element_at}
 use Rattle.elements.specs.Lists.{remade_from, remade, tabulate_from, tabulate}
@@ -21,7 +20,6 @@ use Rattle.layout.specs.Boxes.{one_element, box_count, span_inside, span_has, bo
 use Rattle.layout.specs.Rules.{sizes_valid, whole_atoms, strides_valid, layout_checks, storage_checks}
 use Rattle.layout.specs.Owners.{surface_of, row_of, column_of, byte_in_atom, in_atom, atom_owner, owner}
 use Rattle.layout.specs.Contents.{edited_byte, edited, read_element, box_elements}
-use Rattle.regions.specs.declared.FoundBox.TheVariants.{At, Refused as NotFound}
 use Rattle.regions.specs.declared.Rectangle.{Rectangle}
 use Rattle.regions.specs.declared.Region.{Region}
 use Rattle.regions.specs.declared.RegionTable.{RegionTable}
@@ -79,10 +77,10 @@ abbrev releasing : RegionTable → ℕ → ℕ → ℕ
 releasing t id len = answer_code (release_answer t 0 id len)
 
 abbrev locating : RegionTable → ℕ → ℕ → ℕ
-locating t id c = answer_code (quantity_answer (region_position t 0 id c 0 0))
+locating t id c = answer_code (answer_of (region_position t 0 id c 0 0))
 
 abbrev counting : RegionTable → ℕ → ℕ
-counting t id = answer_code (quantity_answer (region_count t 0 id))
+counting t id = answer_code (answer_of (region_count t 0 id))
 
 pub record Computed : Type 0 where
   -- the paper's second stall overlaps; beside the first there is room; a filled slot is 8
@@ -123,17 +121,17 @@ pub record Computed : Type 0 where
   pub made : editing (by_hand 7) 0 7 (one_element 0 0 0) (pos 1 ∷ []) 480 ≡ 9
   pub made_id : map (λ (id : ℕ). editing (by_hand id) 0 id (one_element 0 0 0) (pos 1 ∷ []) 480) (0 ∷ 70000 ∷ []) ≡ 25 ∷ 25 ∷ []
   -- the paper's cell 0 33 1 1; a cell outside its region is 9; two at once, also 4 and 8, 8 and 25; 25 and 9
-  pub position : region_position table 0 7 33 1 1 ≡ Is 417
-  pub position_past : answer_code (quantity_answer (region_position table 0 7 33 2 1)) ≡ 9
+  pub position : region_position table 0 7 33 1 1 ≡ Ok 417
+  pub position_past : answer_code (answer_of (region_position table 0 7 33 2 1)) ≡ 9
   pub position_double : map (λ (t : RegionTable). locating t 0 40) wrong ≡ 1 ∷ 2 ∷ 3 ∷ 4 ∷ 8 ∷ []
   pub position_later : locating table 8 40 ∷ locating table 7 40 ∷ [] ≡ 25 ∷ 9 ∷ []
   -- the count of a region's elements; two at once, also 4 and 8, 8 and 25; 25 and 9
-  pub count : region_count table 0 7 ≡ Is 160
+  pub count : region_count table 0 7 ≡ Ok 160
   pub count_double : map (λ (t : RegionTable). counting t 0) wrong ≡ 1 ∷ 2 ∷ 3 ∷ 4 ∷ 8 ∷ []
   pub count_later : counting (by_hand 7) 8 ∷ counting (by_hand 7) 7 ∷ [] ≡ 25 ∷ 9 ∷ []
   -- the box of the cube that a region is; of another owner it is 25
-  pub found : region_found two 1 9 ≡ At (record { channel = 0; row = 0; column = 2; channels = 40; rows = 2; columns = 1 })
-  pub not_found : region_found two 1 7 ≡ NotFound OwnerId 0
+  pub found : region_found two 1 9 ≡ Ok (record { channel = 0; row = 0; column = 2; channels = 40; rows = 2; columns = 1 })
+  pub not_found : region_found two 1 7 ≡ Err (refused_at 0 OwnerId)
   -- an edit writes its element at the region's corner, and a read gives it; a read has no 7 and no 26; a refused edit changes nothing
   pub written : edit_buffer small 0 3 (one_element 0 0 0) (pos 5 ∷ []) (replicate 64 9) ≡ replicate 32 9 ++ 5 ∷ replicate 31 9
   pub read : read_elements small 0 3 (one_element 0 0 0) (replicate 32 9 ++ 5 ∷ replicate 31 9) (pos 200 ∷ []) ≡ pos 5 ∷ []
@@ -150,7 +148,7 @@ pub record Computed : Type 0 where
   pub next : placing two 2 8 (rectangle 1 0 1 1) ∷ placing (release_table two 0 7 480) 0 8 (rectangle 1 0 1 1) ∷ [] ≡ 10 ∷ 0 ∷ []
 
 pub computed : Computed
-unfolding require_at in_order leaves result size_valid element_bytes byte_of word_at signed element_at remade_from remade tabulate_from tabulate is_nan value_check value_checks_from value_checks surfaces element_position cube_extent box_count span_inside span_has box_has box_index channel_at row_at column_at sizes_valid whole_atoms strides_valid layout_checks storage_checks surface_of row_of column_of byte_in_atom in_atom atom_owner owner edited_byte edited read_element box_elements slot_of slots_of rectangle_has occupied any_from overlaps rectangle_inside slot_at is_filled rectangle_of id_of place_checks box_in_rectangle slot_checks region_box_checks read_checks edit_checks release_checks place_answer place_table edit_answer edit_buffer read_answer read_elements release_answer release_table release_buffer region_position region_count region_found
+unfolding require_at in_order leaves given size_valid element_bytes byte_of word_at signed element_at remade_from remade tabulate_from tabulate is_nan value_check value_checks_from value_checks surfaces element_position cube_extent box_count span_inside span_has box_has box_index channel_at row_at column_at sizes_valid whole_atoms strides_valid layout_checks storage_checks surface_of row_of column_of byte_in_atom in_atom atom_owner owner edited_byte edited read_element box_elements slot_of slots_of rectangle_has occupied any_from overlaps rectangle_inside slot_at is_filled rectangle_of id_of place_checks box_in_rectangle slot_checks region_box_checks read_checks edit_checks release_checks place_answer place_table edit_answer edit_buffer read_answer read_elements release_answer release_table release_buffer region_position region_count region_found
 computed =
     record {
       placings = refl;

@@ -12,8 +12,7 @@ use mathlib.Core.List.{[], ◌∷◌}
 use lib.Dec.{ltb}
 use borrow.Author.Tests.{ltb-true, eqb-true, not-true}
 use Rattle.general.proofs.TestLaws.{and_left, and_right, and-all}
-use Rattle.refusal.specs.declared.Answer.TheVariants.{Accepted}
-use Rattle.refusal.specs.Checks.{in_order}
+use Rattle.refusal.specs.Checks.{in_order, Accepted}
 use Rattle.refusal.proofs.CheckLaws.{Held, in_order-front, in_order-back, in_order-all, require_at-held}
 use Rattle.layout.specs.declared.CubeLayout.{CubeLayout}
 use Rattle.layout.specs.declared.ElementBox.{ElementBox}

@@ -1,16 +1,13 @@
 -- What placing, editing, reading and releasing answer and leave (scope paper, "Stalls"; change request K1). Where a call is refused, the table and every
 -- lent list stay as they were; an edit and a read hand the table back as it came. Assumes nothing.
-use Rattle.std.specs.Prelude.{ℕ, ◌+◌, true, false, List, length, set, replicate, ℤ}
-use Rattle.refusal.specs.declared.Answer.{Answer}
-use Rattle.refusal.specs.declared.Quantity.{Quantity}
-use Rattle.refusal.specs.Checks.{in_order, leaves, result, quantity}
+use Rattle.std.specs.Prelude.{ℕ, ◌+◌, true, false, List, length, set, replicate, ℤ, Result}
+use Rattle.refusal.specs.Checks.{in_order, leaves, given, quantity, Answer, Quantity}
+use Rattle.refusal.specs.declared.Fault.{Fault}
 use Rattle.layout.specs.declared.CubeLayout.{CubeLayout}
 use Rattle.layout.specs.declared.ElementBox.{ElementBox}
 use Rattle.layout.specs.Boxes.{one_element, box_count}
 use Rattle.layout.specs.Geometry.{element_position}
 use Rattle.layout.specs.Contents.{edited, zeros_of, box_elements}
-use Rattle.regions.specs.declared.FoundBox.{FoundBox}
-use Rattle.regions.specs.declared.FoundBox.TheVariants.{At, Refused as NotFound}
 use Rattle.regions.specs.declared.Rectangle.{Rectangle}
 use Rattle.regions.specs.declared.Region.{Region}
 use Rattle.regions.specs.declared.RegionTable.{RegionTable}
@@ -81,7 +78,7 @@ region_count t n id =
     quantity (in_order (region_box_checks (access_of t n id) all)) (box_count all)
 
 -- the box of the cube that the region in the slot is: 1 to 4, 8, 25, 9, as for a box of all of it
-unfoldable pub region_found : RegionTable → ℕ → ℕ → FoundBox
+unfoldable pub region_found : RegionTable → ℕ → ℕ → Result ElementBox Fault
 region_found t n id =
     let all = whole_region (access_of t n id) in
-    result At NotFound (in_order (region_box_checks (access_of t n id) all)) (region_box (access_of t n id) all)
+    given (in_order (region_box_checks (access_of t n id) all)) (region_box (access_of t n id) all)

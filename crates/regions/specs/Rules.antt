@@ -2,8 +2,7 @@
 -- slots alone, so that the program's table and the reference model are judged by the same rules. Assumes nothing.
 use Rattle.std.specs.Prelude.{ℕ, ◌+◌, Bool, true, false, not, ◌&&◌, List, [], ◌∷◌, ◌++◌, length, get_or, ℤ, ltb, eqb}
 use Rattle.refusal.specs.declared.Refusal.TheVariants.{Slot as SlotRefusal, Bounds, Overlap, OwnerId}
-use Rattle.refusal.specs.declared.Answer.{Answer}
-use Rattle.refusal.specs.Checks.{require}
+use Rattle.refusal.specs.Checks.{require, Answer}
 use Rattle.refusal.specs.Sizes.{size_valid}
 use Rattle.elements.specs.Values.{value_checks}
 use Rattle.layout.specs.declared.CubeLayout.{CubeLayout}

@@ -1,8 +1,8 @@
 // Sixteen regions of interest in one cube, edited side by side: the types (scope paper, "Stalls"). The calls are in `regions_calls`.
 #![tactic(auto)]
 
-use layout::{CubeLayout, ElementBox};
-use refusal::{Answer, Refusal};
+use layout::CubeLayout;
+use refusal::Answer;
 
 // A rectangle of a cube's positions: its first column and row, its columns and rows.
 #[derive(Clone, Copy)]
@@ -15,6 +15,7 @@ pub struct Rectangle {
 
 // A slot of the table: whether a region is placed in it, the id of the region's owner, 1 to 65535 (the "pupil's number"), and its rectangle, over all
 // channels (the scope paper's "stall"). The id and the rectangle of a slot that is not placed mean nothing.
+// A flag, and no Option: the C interface hands back every word of a table as it came, those of a slot that is not placed too.
 #[derive(Clone, Copy)]
 pub struct Region {
     pub placed: bool,
@@ -29,16 +30,9 @@ pub struct RegionTable {
     pub slots: [Region; 16],
 }
 
-// What a call answers, and the table handed back.
-#[derive(Drop)]
+// What a call answers, and the table handed back either way.
+#[derive(Clone, Copy)]
 pub struct Outcome {
     pub answer: Answer,
     pub table: RegionTable,
-}
-
-// A box of the cube, or refused with the index at fault.
-#[derive(Drop)]
-pub enum FoundBox {
-    At(ElementBox),
-    Refused(Refusal, usize),
 }
