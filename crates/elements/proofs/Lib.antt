@@ -6,7 +6,7 @@
 --     ElementLaws which elements a precision takes, and the check of one
 --     ValueLaws   what the checks of a list of elements answer
 --     WordLaws    the unsigned number that bytes are
---     SignLaws    signed numbers as the code computes them: the bits of a 16-bit number, and back
+--     CastLaws    an element as the bits that std gives of it, and back
 --     NanLaws     which numbers are NaN
 --     Claims      number and index of a refused list, and the numbers that are NaN
 --     StepLaws    the code's test of an element, and a pass over the first elements
@@ -17,7 +17,7 @@ pub mod ByteLaws
 pub mod ElementLaws
 pub mod ValueLaws
 pub mod WordLaws
-pub mod SignLaws
+pub mod CastLaws
 pub mod NanLaws
 pub mod StepLaws
 pub mod Claims

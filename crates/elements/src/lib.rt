@@ -16,55 +16,39 @@ pub fn element_bytes(precision: u32) -> u32
     if precision == 0 { 1 } else { 2 }
 }
 
-// A number whose two low bytes are the element's: 65536 more is not negative, and changes neither byte.
-fn bits(x: i16) -> u32
-    ensures { (result % 256 ≡ byte_of x 0) × (result / 256 % 256 ≡ byte_of x 1) }
-{
-    (x as i32 + 65536) as u32
-}
-
 // The low byte of an element.
 pub fn low_byte(x: i16) -> u8
     ensures { result ≡ byte_of x 0 }
 {
-    (bits(x) % 256) as u8
+    x.to_le_bytes()[0]
 }
 
 // The high byte of an element.
 pub fn high_byte(x: i16) -> u8
     ensures { result ≡ byte_of x 1 }
 {
-    (bits(x) / 256 % 256) as u8
+    x.to_le_bytes()[1]
 }
 
 // Both bytes of an element as one number, the low byte first.
 pub fn word(x: i16) -> u16
     ensures { result ≡ bit_pattern x }
 {
-    (bits(x) % 65536) as u16
+    x.cast_unsigned()
 }
 
-// The difference of two numbers, where it fits 16 bits.
-fn less(n: u32, m: u32) -> i16
-    requires { (n < m + 32768) × (m ≤ 32768) }
-    ensures { result ≡ pos n -ℤ pos m }
-{
-    (n as i32 - m as i32) as i16
-}
-
-// The element of one byte: 128 more turns the byte over, so that 128 less is its number.
+// The element of one byte.
 pub fn from_byte(b: u8) -> i16
     ensures { result ≡ signed 1 b }
 {
-    less((b as u32 + 128) % 256, 128)
+    i16::from(b.cast_signed())
 }
 
-// The element of two bytes, low byte first: likewise with 32768.
+// The element of two bytes, low byte first.
 pub fn from_bytes(low: u8, high: u8) -> i16
     ensures { result ≡ signed 2 (low + 256 * high) }
 {
-    let word = low as u32 + 256 * (high as u32);
-    less((word + 32768) % 65536, 32768)
+    i16::from_le_bytes([low, high])
 }
 
 // The bits of an fp16 element below its sign.
@@ -81,7 +65,7 @@ fn raised(precision: u32, x: i16) -> u16
     ensures { ltb result (2 ^ low_bits precision) ≡ value_valid precision x }
 {
     if precision == 0 {
-        return ((word(x) as u32 + 128) % 65536) as u16;
+        return word(x).wrapping_add(128);
     }
     magnitude(x) + 1023
 }

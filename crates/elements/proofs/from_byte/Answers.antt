@@ -1,11 +1,11 @@
--- `elements::from_byte` meets its contract: 128 more turns a byte over, and 128 less gives its number. Assumes nothing.
-use mathlib.Core.Path.{◌∙◌}
-use native.Mathlib.Omega.{arith}
-use Rattle.elements.proofs.SignLaws.{turned-back}
-use borrow.Author.Rules.{sfits_of}
-use mir.Syntax.{w16}
+-- `elements::from_byte` meets its contract. Assumes nothing.
+use mathlib.Core.Path.{ap, ◌∙◌}
+use lib.ListN.{get_or}
+use mir.Syntax.{w8, w16}
 use mir.Facts.{to_z-of_z}
+use borrow.Author.Rules.{sfits_of}
+use Rattle.elements.proofs.CastLaws.{byte-back}
 use Rattle.elements.proofs.from_byte.Goals as goal
 
 pub returns : goal.returns
-returns c = to_z-of_z {w = w16} (sfits_of c.less.type_inv) ∙ c.less.ensures ∙ turned-back 0 c.args.b (omega arith)
+returns c = to_z-of_z {w = w16} (sfits_of c.from.type_inv) ∙ c.from.ensures ∙ to_z-of_z {w = w8} (sfits_of c.cast_signed.type_inv) ∙ c.cast_signed.ensures ∙ byte-back c.args.b

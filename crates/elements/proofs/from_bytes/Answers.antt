@@ -1,12 +1,11 @@
--- `elements::from_bytes` meets its contract: 32768 more turns a word over, and 32768 less gives its number. Assumes nothing.
-use Prim.Native.Nat.{◌+◌, ◌*◌}
-use mathlib.Core.Path.{◌∙◌}
-use native.Mathlib.Omega.{arith}
-use Rattle.elements.proofs.SignLaws.{turned-back}
-use borrow.Author.Rules.{sfits_of}
-use mir.Syntax.{w16}
+-- `elements::from_bytes` meets its contract. Assumes nothing.
+use mathlib.Core.Path.{ap, ◌∙◌}
+use lib.ListN.{get_or}
+use mir.Syntax.{w8, w16}
 use mir.Facts.{to_z-of_z}
+use borrow.Author.Rules.{sfits_of}
+use Rattle.elements.proofs.CastLaws.{word-back}
 use Rattle.elements.proofs.from_bytes.Goals as goal
 
 pub returns : goal.returns
-returns c = to_z-of_z {w = w16} (sfits_of c.less.type_inv) ∙ c.less.ensures ∙ turned-back 1 (c.args.low + 256 * c.args.high) (omega arith)
+returns c = to_z-of_z {w = w16} (sfits_of c.from_le_bytes.type_inv) ∙ c.from_le_bytes.ensures ∙ word-back c.args.low c.args.high

@@ -1,0 +1,11 @@
+-- `elements::word` meets its contract. Assumes nothing.
+use mathlib.Core.Path.{ap, ◌∙◌}
+use lib.ListN.{get_or}
+use mir.Syntax.{w8, w16}
+use mir.Facts.{to_z-of_z}
+use Rattle.elements.proofs.CastLaws.{both-bytes}
+use Rattle.elements.proofs.word.Goals as goal
+
+pub returns : goal.returns
+returns c = let back = to_z-of_z {w = w16} c.ranges.x in
+    c.cast_unsigned.ensures ∙ rw back (both-bytes c.args.x c.ranges.x.sfits)
