@@ -1,7 +1,7 @@
 -- Elements as the bits that std's conversions give, and back. By cases on the sign; the rest is linear arithmetic. Assumes nothing.
 --     low-byte, high-byte, both-bytes       an element's two bytes, and both as one number
 --     byte-back, word-back                  the element of one byte, and of two
-use Prim.Native.Nat.{ℕ, ◌+◌, ◌*◌, ◌/◌, ◌%◌, ◌<◌}
+use Prim.Native.Nat.{ℕ, ◌+◌, ◌*◌, ◌<◌}
 use native.Mathlib.Omega.{arith}
 use mathlib.Core.Path.{◌≡◌, refl, ap}
 use mathlib.Core.List.{[], ◌∷◌}

@@ -1,6 +1,5 @@
 -- `elements::from_byte` meets its contract. Assumes nothing.
-use mathlib.Core.Path.{ap, ◌∙◌}
-use lib.ListN.{get_or}
+use mathlib.Core.Path.{◌∙◌}
 use mir.Syntax.{w8, w16}
 use mir.Facts.{to_z-of_z}
 use borrow.Author.Rules.{sfits_of}

@@ -1,7 +1,6 @@
 -- `elements::from_bytes` meets its contract. Assumes nothing.
-use mathlib.Core.Path.{ap, ◌∙◌}
-use lib.ListN.{get_or}
-use mir.Syntax.{w8, w16}
+use mathlib.Core.Path.{◌∙◌}
+use mir.Syntax.{w16}
 use mir.Facts.{to_z-of_z}
 use borrow.Author.Rules.{sfits_of}
 use Rattle.elements.proofs.CastLaws.{word-back}

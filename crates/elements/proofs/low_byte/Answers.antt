@@ -1,7 +1,5 @@
 -- `elements::low_byte` meets its contract. Assumes nothing.
-use mathlib.Core.Path.{ap, ◌∙◌}
-use lib.ListN.{get_or}
-use mir.Syntax.{w8, w16}
+use mir.Syntax.{w16}
 use mir.Facts.{to_z-of_z}
 use Rattle.elements.proofs.CastLaws.{low-byte}
 use Rattle.elements.proofs.low_byte.Goals as goal
