@@ -9,10 +9,10 @@ use mathlib.Core.Path.{◌≡◌, sym, ap, subst, ◌∙◌}
 use mathlib.Core.Bool.{Bool, true, false, ◌&&◌}
 use mathlib.Core.Logic.{inl, inr, ⊎_elim}
 use mathlib.Core.List.{List}
-use lib.Dec.{eqb}
+use lib.Dec.{ltb}
 use lib.ListN.{length, get_or}
 use lib.IntN.{ℤ, pos}
-use borrow.Author.Tests.{eqb-true, eq-eqb}
+use borrow.Author.Tests.{ltb-true, lt-ltb}
 use Rattle.general.proofs.Toward.{Toward}
 use Rattle.general.proofs.TestLaws.{and-true}
 use Rattle.elements.specs.Bytes.{byte_of}
@@ -70,6 +70,21 @@ module _ (q : CubeLayout) (ok : Valid q) (box : ElementBox) (inside : BoxValid q
         row-position q box n m r end k i hk ∙ ap (λ (x : ℕ). run_position q box x r + 32 * i) (omega arith) in
         subst (λ (p : ℕ). get_or (block_written (row_block q box plane line n m r) xs l) (p + b) 0 ≡ get_or goal (p + b) 0) at (block-reached k i b hk hi hb)
 
+  -- ---- in the whole cube only the last channels may leave their atoms unfilled: behind full atoms others follow
+
+  some-bytes : 0 < (m - n) * size_of q
+  some-bytes = omega (arith, mul-le-mul_right {m = 1} {n = m - n} (size_of q) (omega (arith, end.some)), element_bytes-pos q.precision)
+
+  part-last : pad ≡ true → n * size_of q % 32 ≡ 0 → (m - n) * size_of q < 32 → m ≡ box.channels
+  part-last t aligned part =
+      elim (dec_lt m box.channels) [
+        | yes h ↦
+            let same : (box.channel + m) * size_of q ≡ n * size_of q + (m - n) * size_of q =
+            ap (λ (x : ℕ). x * size_of q) (omega (arith, end.some, ap (λ (b : ElementBox). b.channel) (g.whole t))) ∙ add-mul n (m - n) (size_of q) in
+            absurd (omega (arith, same, end.next h, aligned, part, some-bytes))
+        | no f ↦ omega (arith, end.le)
+      ]
+
   -- ---- the last surface of the whole cube: its row's atoms begin with channel n
 
   module _ (t : pad ≡ true) (last : m ≡ box.channels) (aligned : n * size_of q % 32 ≡ 0) where
@@ -101,7 +116,12 @@ module _ (q : CubeLayout) (ok : Valid q) (box : ElementBox) (inside : BoxValid q
     fill = omega (arith, end.one)
 
     some_bytes : n * size_of q < q.channels * size_of q
-    some_bytes = omega (arith, bytes, mul-le-mul_right {m = 1} {n = m - n} (size_of q) (omega (arith, end.some)), element_bytes-pos q.precision)
+    some_bytes = omega (arith, bytes, some-bytes)
+
+    -- where padding follows, they do not fill their atoms
+    padded-part : {p : ℕ} → PaddingByte q p → (m - n) * size_of q < 32
+    unfolding surfaces
+    padded-part x = omega (arith, x.atom.surface_lt, x.atom.byte_lt, x.past, bytes, aligned)
 
     surface_lt : n * size_of q / 32 < surfaces q
     surface_lt = element-surface q ok n (omega (arith, hn, ap (λ (b : ElementBox). b.channels) is_whole))
@@ -199,22 +219,24 @@ module _ (q : CubeLayout) (ok : Valid q) (box : ElementBox) (inside : BoxValid q
     pub reached : (c : ℕ) → n ≤ c → c < m → Reached q box pad goal after c r
 
   module _ (aligned : pad ≡ true → n * size_of q % 32 ≡ 0) (l : List ℕ) (long : length l ≡ length before) where
-    pub row_done : (clear : Bool) → clear ≡ pad && eqb m box.channels → RowDone l (row_written (row_block q box plane line n m r) clear xs l)
+    pub row_done : (clear : Bool) → clear ≡ pad && ltb ((m - n) * size_of q) 32 → RowDone l (row_written (row_block q box plane line n m r) clear xs l)
     unfolding row_written after
     row_done false e =
         record {
           near = block-toward l long;
           reached = λ c low high. record {
             elements = channel-reached l long c low high;
-            pads = λ t last p x h. absurd (differ (e ∙ ap (λ (b : Bool). b && eqb m box.channels) t ∙ eq-eqb m box.channels (omega (arith, last, high, end.le))));
+            pads = λ t z p x h.
+                let part = padded-part t (omega (arith, z, high, end.le)) (aligned t) x in
+                absurd (differ (e ∙ ap (λ (b : Bool). b && ltb ((m - n) * size_of q) 32) t ∙ lt-ltb ((m - n) * size_of q) 32 part));
           };
         }
       where
         differ : false ≡ true → ⊥
         differ z = let y : ◌≡◌ {A = ℕ} 0 1 = cc in omega arith
     row_done true e =
-        let b = and-true pad (eqb m box.channels) (sym e) in
-        let last = eqb-true m box.channels b.1 in
+        let b = and-true pad (ltb ((m - n) * size_of q) 32) (sym e) in
+        let last = part-last b.0 (aligned b.0) (ltb-true ((m - n) * size_of q) 32 b.1) in
         record {
           near = cleared-toward b.0 last (aligned b.0) l long;
           reached = λ c low high. record {

@@ -7,12 +7,17 @@ use Rattle.layout.specs.declared.CubeLayout.{CubeLayout}
 use Rattle.layout.specs.declared.ElementBox.{ElementBox}
 use Rattle.layout.specs.Geometry.{size_of, element_position}
 use Rattle.layout.specs.Contents.{packed, edited, elements_by}
+use Rattle.cube.specs.declared.runs.Spacing.{Spacing}
 
 -- where channel n of row r begins in a list of elements whose channels lie `plane` apart and whose rows lie `line` apart
 unfoldable pub run_from : (plane line n r : ℕ) → ℕ
 run_from plane line n r = n * plane + r * line
 
--- the same in raw order over the box, and in the buffer
+-- how far apart the elements lie in raw order over the box
+abbrev pub raw_spacing : ElementBox → Spacing
+raw_spacing box = record { plane = box.rows * box.columns; line = box.columns }
+
+-- where it begins in raw order, and in the buffer
 abbrev pub run_index : ElementBox → ℕ → ℕ → ℕ
 run_index box n r = run_from (box.rows * box.columns) box.columns n r
 

@@ -11,6 +11,7 @@ ghost use Rattle.layout.specs.Calls.{pack_answer, pack_buffer, unpack_answer, un
 
 use layout::{CubeLayout, ElementBox};
 use refusal::{Answer, Quantity};
+use runs::Spacing;
 
 // The box of the whole cube.
 fn whole(layout: CubeLayout) -> ElementBox
@@ -30,10 +31,7 @@ fn whole(layout: CubeLayout) -> ElementBox
 fn judge(layout: CubeLayout, b: ElementBox, elements: &[i16], len: usize) -> Answer
     ensures { result ≡ write_box_answer layout b elements.now len }
 {
-    let a = layout_calls::admit(layout, b, elements.len(), len);
-    let Answer::Accepted = a else {
-        return a;
-    };
+    layout_calls::admit(layout, b, elements.len(), len)?;
     elements::check_values(layout.precision, elements)
 }
 
@@ -49,16 +47,11 @@ pub fn pack(layout: CubeLayout, elements: &[i16], buffer: &mut [u8]) -> Answer
     ensures answered { result ≡ pack_answer layout elements.now (length buffer.old) }
     ensures left { buffer.new ≡ pack_buffer layout elements.now buffer.old }
 {
-    let a = check_pack(layout, elements, buffer.len());
-    let Answer::Accepted = a else {
-        return a;
-    };
+    check_pack(layout, elements, buffer.len())?;
     let cube = whole(layout);
-    let pad = layout.channels * elements::element_bytes(layout.precision) % 32 != 0;
-    let line = layout.width;
-    let plane = layout.height * line;
-    write::all(layout, cube, pad, elements, plane, line, buffer);
-    Answer::Accepted
+    let spacing = Spacing::raw(cube);
+    write::all::<true>(layout, cube, elements, spacing, buffer);
+    Ok(())
 }
 
 // Reads a packed cube back into a raw tensor; padding is ignored.
@@ -67,12 +60,9 @@ pub fn unpack(layout: CubeLayout, buffer: &[u8], elements: &mut [i16]) -> Answer
     ensures left { elements.new ≡ unpack_elements layout buffer.now elements.old }
 {
     let cube = whole(layout);
-    let a = layout_calls::admit(layout, cube, elements.len(), buffer.len());
-    let Answer::Accepted = a else {
-        return a;
-    };
+    layout_calls::admit(layout, cube, elements.len(), buffer.len())?;
     read::all(layout, cube, buffer, elements);
-    Answer::Accepted
+    Ok(())
 }
 
 // Writes the elements of a box, in raw order over the box, and no other byte.
@@ -80,14 +70,10 @@ pub fn write_box(layout: CubeLayout, b: ElementBox, elements: &[i16], buffer: &m
     ensures answered { result ≡ write_box_answer layout b elements.now (length buffer.old) }
     ensures left { buffer.new ≡ write_box_buffer layout b elements.now buffer.old }
 {
-    let a = judge(layout, b, elements, buffer.len());
-    let Answer::Accepted = a else {
-        return a;
-    };
-    let line = b.columns;
-    let plane = b.rows * line;
-    write::all(layout, b, false, elements, plane, line, buffer);
-    Answer::Accepted
+    judge(layout, b, elements, buffer.len())?;
+    let spacing = Spacing::raw(b);
+    write::all::<false>(layout, b, elements, spacing, buffer);
+    Ok(())
 }
 
 // Sets the elements of a box to 0, and no other byte.
@@ -95,12 +81,9 @@ pub fn clear_box(layout: CubeLayout, b: ElementBox, buffer: &mut [u8]) -> Answer
     ensures answered { result ≡ clear_box_answer layout b (length buffer.old) }
     ensures left { buffer.new ≡ clear_box_buffer layout b buffer.old }
 {
-    let a = layout_calls::check_room(layout, b, buffer.len());
-    let Answer::Accepted = a else {
-        return a;
-    };
+    layout_calls::check_room(layout, b, buffer.len())?;
     write::zeros(layout, b, buffer);
-    Answer::Accepted
+    Ok(())
 }
 
 // Reads the elements of a box, in raw order over the box.
@@ -108,12 +91,9 @@ pub fn read_box(layout: CubeLayout, b: ElementBox, buffer: &[u8], elements: &mut
     ensures answered { result ≡ read_box_answer layout b (length elements.old) (length buffer.now) }
     ensures left { elements.new ≡ read_box_elements layout b buffer.now elements.old }
 {
-    let a = layout_calls::admit(layout, b, elements.len(), buffer.len());
-    let Answer::Accepted = a else {
-        return a;
-    };
+    layout_calls::admit(layout, b, elements.len(), buffer.len())?;
     read::all(layout, b, buffer, elements);
-    Answer::Accepted
+    Ok(())
 }
 
 // The byte at which an element begins.
@@ -121,15 +101,13 @@ pub fn position(layout: CubeLayout, channel: u32, row: u32, column: u32) -> Quan
     ensures { result ≡ position_quantity layout channel row column }
 {
     let one = ElementBox {
-        channel: channel,
-        row: row,
-        column: column,
+        channel,
+        row,
+        column,
         channels: 1,
         rows: 1,
         columns: 1,
     };
-    match layout_calls::check_box(layout, one) {
-        Answer::Refused(refusal, at) => Quantity::Refused(refusal, at),
-        Answer::Accepted => Quantity::Is(runs::position_of(layout, channel, row, column)),
-    }
+    layout_calls::check_box(layout, one)?;
+    Ok(runs::position_of(layout, channel, row, column))
 }

@@ -1,11 +1,10 @@
 // Reading a box: atom by atom of its channels, row by row, one column in each atom.
 ghost use Rattle.std.specs.Prelude.{◌≡◌, length};
-ghost use Rattle.refusal.specs.declared.Answer.TheVariants.{Accepted};
-ghost use Rattle.refusal.specs.Checks.{in_order};
+ghost use Rattle.refusal.specs.Checks.{in_order, Accepted};
 ghost use Rattle.layout.specs.Rules.{admit_checks};
 ghost use Rattle.layout.specs.Contents.{box_elements};
 
-use crate::runs;
+use crate::runs::{self, Spacing};
 use layout::{CubeLayout, ElementBox};
 
 // All channels of the box, those of one atom after another, all rows of these before the next.
@@ -14,19 +13,14 @@ pub(crate) fn all(layout: CubeLayout, b: ElementBox, buffer: &[u8], elements: &m
     ensures { elements.new ≡ box_elements layout b buffer.now }
 {
     let e = elements::element_bytes(layout.precision);
-    let first = b.channel;
-    let channels = b.channels;
-    let rows = b.rows;
-    let line = b.columns;
-    let plane = rows * line;
+    let spacing = Spacing::raw(b);
     let mut n: u32 = 0;
-    while n < channels {
-        let m = runs::atom_end(e, first, channels, n);
-        let mut r: u32 = 0;
-        while r < rows {
-            let block = runs::row(layout, b, plane, line, n, m, r);
+    // A while: it goes on by what atom_end gives, not by one.
+    while n < b.channels {
+        let m = runs::atom_end(e, b.channel, b.channels, n);
+        for r in 0..b.rows {
+            let block = runs::row(layout, b, spacing, n, m, r);
             columns_calls::read(block, buffer, elements);
-            r += 1;
         }
         n = m;
     }

@@ -1,10 +1,9 @@
 // Where an element begins, and the channels of a box that lie in one atom, as columns.
-ghost use Rattle.std.specs.Prelude.{◌≡◌, ◌+◌, ◌<◌, ◌≤◌};
-ghost use Rattle.refusal.specs.declared.Answer.TheVariants.{Accepted};
-ghost use Rattle.refusal.specs.Checks.{in_order};
+ghost use Rattle.std.specs.Prelude.{◌≡◌, ◌+◌, ◌*◌, ◌^◌, ◌<◌, ◌≤◌};
+ghost use Rattle.refusal.specs.Checks.{in_order, Accepted};
 ghost use Rattle.layout.specs.Geometry.{element_position};
 ghost use Rattle.layout.specs.Rules.{layout_checks, box_checks};
-ghost use Rattle.cube.specs.Steps.{run_position, run_from, AtomEnd, row_block};
+ghost use Rattle.cube.specs.Steps.{run_position, raw_spacing, run_from, AtomEnd, row_block};
 
 use columns::ColumnBlock;
 use layout::{CubeLayout, ElementBox};
@@ -32,12 +31,32 @@ fn run_position(layout: CubeLayout, b: ElementBox, n: u32, r: u32) -> usize
     position_of(layout, channel, row, b.column) as usize
 }
 
-// Where channel n of row r begins among elements whose channels lie `plane` apart and whose rows lie `line` apart.
-fn run_from(plane: u32, line: u32, n: u32, r: u32) -> usize
-    requires { (n < 8192) × (r < 8192) }
-    ensures { result ≡ run_from plane line n r }
-{
-    n as usize * plane as usize + r as usize * line as usize
+// How far apart elements of a box lie in a list: channels `plane`, rows `line`, columns one.
+#[derive(Clone, Copy)]
+pub(crate) struct Spacing {
+    pub(crate) plane: u32,
+    pub(crate) line: u32,
+}
+
+impl Spacing {
+    // In raw order over a box.
+    pub(crate) fn raw(b: ElementBox) -> Spacing
+        requires { b.rows * b.columns < 2 ^ 32 }
+        ensures { result ≡ raw_spacing b }
+    {
+        Spacing {
+            plane: b.rows * b.columns,
+            line: b.columns,
+        }
+    }
+
+    // Where channel n of row r begins in the list.
+    fn run_from(self, n: u32, r: u32) -> usize
+        requires { (n < 8192) × (r < 8192) }
+        ensures { result ≡ run_from self.plane self.line n r }
+    {
+        n as usize * self.plane as usize + r as usize * self.line as usize
+    }
 }
 
 // The channel behind those that lie in one atom with channel n of a box: the first of the next atom, or the end.
@@ -47,32 +66,28 @@ pub(crate) fn atom_end(e: u32, channel: u32, channels: u32, n: u32) -> u32
 {
     let per = 32 / e;
     let next = n + per - (channel + n) % per;
-    if channels < next {
-        return channels;
-    }
-    next
+    next.min(channels)
 }
 
-// Channels n to m of the box's row r as columns, one in each atom; among the elements, channels lie `plane` apart and rows `line`.
+// Channels n to m of the box's row r as columns, one in each atom.
 pub(crate) fn row(
     layout: CubeLayout,
     b: ElementBox,
-    plane: u32,
-    line: u32,
+    spacing: Spacing,
     n: u32,
     m: u32,
     r: u32,
 ) -> ColumnBlock
     requires b_value { in_order (box_checks layout b) ≡ Accepted }
     requires n_lt_m { (n < m) × (m ≤ b.channels) × (r < b.rows) }
-    ensures { result ≡ row_block layout b plane line n m r }
+    ensures { result ≡ row_block layout b spacing.plane spacing.line n m r }
 {
     ColumnBlock {
         size: elements::element_bytes(layout.precision),
         rows: m - n,
         count: b.columns,
-        from: run_from(plane, line, n, r),
-        plane: plane,
+        from: spacing.run_from(n, r),
+        plane: spacing.plane,
         at: run_position(layout, b, n, r),
         stride: 32,
     }

@@ -3,12 +3,12 @@ use mathlib.Core.Path.{sym, ◌∙◌}
 use Rattle.cube.proofs.FinalLaws.{was-cleared, clear_kept}
 use Rattle.cube.proofs.clear_box.Goals as goal
 
-pub returns-in_default-clause-left : goal.returns-in_default-clause-left
-returns-in_default-clause-left c =
+pub returns-in_err-check_room-clause-left : goal.returns-in_err-check_room-clause-left
+returns-in_err-check_room-clause-left c =
     let a = c.args in
-    clear_kept a.layout a.b a.buffer.now (sym c.check_room-a.ensures ∙ c.in_default.is)
+    clear_kept a.layout a.b a.buffer.now (sym c.check_room.ensures ∙ c.in_err-check_room.was)
 
 pub returns-clause-left : goal.returns-clause-left
 returns-clause-left c =
     let a = c.args in
-    was-cleared a.layout a.b a.buffer.now (sym c.check_room-a.ensures ∙ c.in-Accepted.is) c.zeros.ensures
+    was-cleared a.layout a.b a.buffer.now (sym c.check_room.ensures ∙ c.in_ok-check_room.was) c.zeros.ensures

@@ -15,13 +15,14 @@ use Rattle.layout.specs.Geometry.{size_of}
 use Rattle.layout.specs.Boxes.{box_count}
 use Rattle.layout.specs.Contents.{box_elements}
 use Rattle.layout.proofs.CallLaws.{admitted, admit-front}
+use Rattle.cube.specs.declared.runs.Spacing.{Spacing}
 use Rattle.cube.specs.Steps.{AtomEnd, row_block}
 use Rattle.cube.proofs.RunLaws.{plane-le}
 use Rattle.cube.proofs.ReadLaws.{RowRead, read-keep, read-toward, read-reached, read_only}
 use Rattle.cube.proofs.read.all.Goals as goal
 
-pub overflow_mul-plane : goal.overflow_mul-plane
-overflow_mul-plane c =
+pub raw-spacing-requires : goal.raw-spacing-requires
+raw-spacing-requires c =
     let a = c.args in
     let d = admitted a.layout a.b (length a.elements.now) (length a.buffer.now) c.requires in
     omega (arith, plane-le a.layout a.b d.layout d.inside)
@@ -47,31 +48,30 @@ row-block-requires-clause-b_value c = let a = c.args in admit-front a.layout a.b
 
 -- one turn of the rows' loop
 pub loop-r-preserved : goal.loop-r-preserved
-loop-r-preserved c = (
-  omega arith,
-  λ h.
-      let a = c.args in
-      let d = admitted a.layout a.b (length a.elements.now) (length a.buffer.now) c.requires in
-      let goal : List ℤ = box_elements a.layout a.b a.buffer.now in
-      let end : AtomEnd (size_of a.layout) a.b.channel a.b.channels c.loop-n.n c.atom_end-m.result =
-      subst (λ (e : ℕ). AtomEnd e a.b.channel a.b.channels c.loop-n.n c.atom_end-m.result) c.element_bytes-e.ensures c.atom_end-m.ensures in
-      let n = c.loop-n.n in
-      let m = c.atom_end-m.result in
-      let r = c.loop-r.r in
-      let after = c.read.new.elements in
-      let so = c.loop-r.invariant.1 h in
-      let block = row_block a.layout a.b (a.b.rows * a.b.columns) a.b.columns n m r in
-      let long : length c.loop-r.elements ≡ box_count a.b = so.0.long ∙ h in
-      let is : after ≡ block_read block a.buffer.now c.loop-r.elements =
-      c.read.ensures ∙ ap (λ (b : ColumnBlock). block_read b a.buffer.now c.loop-r.elements) c.row-block.ensures in
-      let near = subst⁻¹ (λ (x : List ℤ). Toward (pos 0) goal c.loop-r.elements x) is
-      (read-toward a.layout a.b a.buffer.now d.layout d.inside d.room n m r end c.loop-r-test.true c.loop-r.elements long) in (
-        toward-trans (pos 0) goal so.0 near,
-        rows_more (RowRead a.b goal c.loop-r.elements) (RowRead a.b goal after) (λ x k t. read-keep a.b goal near x k t) n m r so.1
-            (λ x low high. subst⁻¹ (λ (y : List ℤ). RowRead a.b goal y x r) is
-            (read-reached a.layout a.b a.buffer.now d.layout d.inside d.room n m r end c.loop-r-test.true c.loop-r.elements long x low high)),
-      ),
-)
+loop-r-preserved c = λ h.
+    let a = c.args in
+    let d = admitted a.layout a.b (length a.elements.now) (length a.buffer.now) c.requires in
+    let goal : List ℤ = box_elements a.layout a.b a.buffer.now in
+    let end : AtomEnd (size_of a.layout) a.b.channel a.b.channels c.loop-n.n c.atom_end-m.result =
+    subst (λ (e : ℕ). AtomEnd e a.b.channel a.b.channels c.loop-n.n c.atom_end-m.result) c.element_bytes-e.ensures c.atom_end-m.ensures in
+    let n = c.loop-n.n in
+    let m = c.atom_end-m.result in
+    let r = c.loop-r.r in
+    let after = c.read.new.elements in
+    let so = c.loop-r.invariant h in
+    let block = row_block a.layout a.b (a.b.rows * a.b.columns) a.b.columns n m r in
+    let long : length c.loop-r.elements ≡ box_count a.b = so.0.long ∙ h in
+    let is : after ≡ block_read block a.buffer.now c.loop-r.elements =
+    c.read.ensures
+    ∙ ap (λ (b : ColumnBlock). block_read b a.buffer.now c.loop-r.elements) c.row-block.ensures
+    ∙ ap (λ (s : Spacing). block_read (row_block a.layout a.b s.plane s.line n m r) a.buffer.now c.loop-r.elements) c.raw-spacing.ensures in
+    let near = subst⁻¹ (λ (x : List ℤ). Toward (pos 0) goal c.loop-r.elements x) is
+    (read-toward a.layout a.b a.buffer.now d.layout d.inside d.room n m r end c.loop-r-test.true c.loop-r.elements long) in (
+      toward-trans (pos 0) goal so.0 near,
+      rows_more (RowRead a.b goal c.loop-r.elements) (RowRead a.b goal after) (λ x k t. read-keep a.b goal near x k t) n m r so.1
+          (λ x low high. subst⁻¹ (λ (y : List ℤ). RowRead a.b goal y x r) is
+          (read-reached a.layout a.b a.buffer.now d.layout d.inside d.room n m r end c.loop-r-test.true c.loop-r.elements long x low high)),
+    )
 
 pub returns : goal.returns
 returns c =

@@ -13,12 +13,8 @@ use Rattle.cube.proofs.read.all.Given as goal
 
 abbrev pub invariant-loop-r : goal.invariant-loop-r
 invariant-loop-r l =
-    (l.r ≤ l.b.rows)
-    × (length l.initial.elements ≡ box_count l.b
+    (length l.initial.elements ≡ box_count l.b
     → Toward (pos 0) (box_elements l.layout l.b l.buffer) l.initial.elements l.elements × Rows (RowRead l.b (box_elements l.layout l.b l.buffer) l.elements) l.n l.m l.r)
-
-abbrev pub decreases-loop-r : goal.decreases-loop-r
-decreases-loop-r l = l.b.rows - l.r
 
 abbrev pub invariant-loop-n : goal.invariant-loop-n
 invariant-loop-n l =
