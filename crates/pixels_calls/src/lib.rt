@@ -5,12 +5,12 @@ mod rules;
 mod table;
 
 ghost use Rattle.std.specs.Prelude.{◌≡◌, ◌<◌};
-ghost use Rattle.refusal.specs.declared.Answer.TheVariants.{Accepted};
+ghost use Rattle.refusal.specs.Checks.{Accepted};
 ghost use Rattle.pixels.specs.Formats.{format_of};
 ghost use Rattle.pixels.specs.Settings.{setting_answer, pixel_position, position_quantity};
 
 use pixels::{PixelFormat, PixelSetting};
-use refusal::{Answer, Quantity, Refusal};
+use refusal::{Answer, Fault, Quantity, Refusal};
 
 // The format of a code; a code past the last has none, and each of its numbers is 0.
 pub fn format(code: u32) -> PixelFormat
@@ -30,21 +30,21 @@ pub fn setting(image: PixelSetting) -> Answer
     ensures { result ≡ setting_answer image }
 {
     let Some(format) = table::format_of(image.format) else {
-        return Answer::Refused(Refusal::PixelFormat, 0);
+        return Err(Fault(Refusal::PixelFormat, 0));
     };
     if !refusal::size_valid(8192, image.width) || !refusal::size_valid(8192, image.height) {
-        return Answer::Refused(Refusal::Size, 0);
+        return Err(Fault(Refusal::Size, 0));
     }
     if !rules::kind_valid(image, format) {
-        return Answer::Refused(Refusal::PixelKind, 0);
+        return Err(Fault(Refusal::PixelKind, 0));
     }
     if format.offsets < image.offset {
-        return Answer::Refused(Refusal::XOffset, 0);
+        return Err(Fault(Refusal::XOffset, 0));
     }
     if !rules::strides_valid(image, format.bytes) {
-        return Answer::Refused(Refusal::PixelStrides, 0);
+        return Err(Fault(Refusal::PixelStrides, 0));
     }
-    Answer::Accepted
+    Ok(())
 }
 
 // The byte at which a pixel of an accepted setting begins.
@@ -59,17 +59,13 @@ fn pixel_start(image: PixelSetting, x: u32, y: u32) -> u64
 }
 
 // Checks 19, 1, 20, 21, 22, 23, and the byte at which pixel (x, y) begins.
-#[tactic(auto, unfolding(pixels::specs::Settings::position_quantity, pixels::specs::Settings::setting_answer, pixels::specs::Settings::setting_checks, refusal::specs::Checks::in_order, refusal::specs::Checks::require_at, refusal::specs::Checks::result))]
+#[tactic(auto, unfolding(pixels::specs::Settings::position_quantity, pixels::specs::Settings::setting_answer, pixels::specs::Settings::setting_checks, refusal::specs::Checks::in_order, refusal::specs::Checks::require_at, refusal::specs::Checks::given))]
 pub fn position(image: PixelSetting, x: u32, y: u32) -> Quantity
     ensures { result ≡ position_quantity image x y }
 {
-    match setting(image) {
-        Answer::Refused(refusal, at) => Quantity::Refused(refusal, at),
-        Answer::Accepted => {
-            if image.width <= x || image.height <= y {
-                return Quantity::Refused(Refusal::PixelOutside, 0);
-            }
-            Quantity::Is(pixel_start(image, x, y))
-        }
+    setting(image)?;
+    if image.width <= x || image.height <= y {
+        return Err(Fault(Refusal::PixelOutside, 0));
     }
+    Ok(pixel_start(image, x, y))
 }
