@@ -3,7 +3,6 @@
 --     saturate-cases                                 what holds of all three holds of the answer
 --     saturate-kept                                  a number in low..high stays
 --     fits-saturate                                  where the limits fit a type, the answer does
---     beyond-low, beyond-high                        beyond a limit or not, by the tests
 --     within_same, beyond-other                      a number that is not beyond stays, one that is does not
 use native.Mathlib.Omega.{arith}
 use mathlib.Core.Path.{◌≡◌, refl, sym, ap, subst⁻¹, ◌∙◌}
@@ -32,14 +31,6 @@ module _ (low high z : ℤ) where
   pub saturate-same : lt_z z low ≡ false → lt_z high z ≡ false → saturate low high z ≡ z
   unfolding saturate
   saturate-same e f = rw (e, f)
-
-  pub beyond-low : lt_z z low ≡ true → true ≡ beyond low high z
-  unfolding beyond
-  beyond-low e = rw e
-
-  pub beyond-high : lt_z z low ≡ false → lt_z high z ≡ beyond low high z
-  unfolding beyond
-  beyond-high e = rw e
 
   module _ (P : ℤ → Type 0) (lower : P low) (upper : P high) (inside : low ≤ℤ z → z ≤ℤ high → P z) where
     by_high : (t : Bool) → lt_z z low ≡ false → lt_z high z ≡ t → P (saturate low high z)
