@@ -4,9 +4,9 @@ use mathlib.Core.Path.{◌≡◌, refl}
 use mathlib.Core.Bool.{true, false}
 use mathlib.Core.List.{List, [], ◌∷◌, map}
 use lib.IntN.{pos, negsuc}
-use Rattle.lines.specs.declared.Number.TheVariants.{Unreadable, Is}
+use Rattle.std.proofs.Common.{None}
 use Rattle.lines.specs.Texts.{before, split, without_empty_last, lines_of, fields_of}
-use Rattle.lines.specs.Numbers.{is_digit, all_digits, value_after, is_empty, well_begun, number_of, with_minus, signed_of}
+use Rattle.lines.specs.Numbers.{is_digit, all_digits, value_after, is_empty, well_begun, number, number_of, with_minus, signed_of}
 use Rattle.lines.specs.Digits.{leading_in, digits, numeral}
 
 -- digits as bytes
@@ -35,22 +35,23 @@ unfolding before split without_empty_last lines_of fields_of
 lines = record { none = refl; one = refl; two = refl; last = refl; tab = refl }
 
 pub record Numbers : Type 0 where
-  pub zero : number_of (text (0 ∷ [])) ≡ Is false 0
-  pub led : number_of (text (0 ∷ 1 ∷ [])) ≡ Unreadable
-  pub greatest : number_of largest ≡ Is false 4294967295
-  pub over : number_of too_large ≡ Unreadable
+  pub empty : number_of [] ≡ None
+  pub zero : number_of (text (0 ∷ [])) ≡ number false 0
+  pub led : number_of (text (0 ∷ 1 ∷ [])) ≡ None
+  pub greatest : number_of largest ≡ number false 4294967295
+  pub over : number_of too_large ≡ None
   -- a minus only where it is asked for, before a number that is not 0
-  pub unasked : number_of (45 ∷ text (1 ∷ [])) ≡ Unreadable
-  pub minus : signed_of (45 ∷ largest) ≡ Is true 4294967295
-  pub minus_over : signed_of (45 ∷ too_large) ≡ Unreadable
-  pub minus_zero : signed_of (45 ∷ text (0 ∷ [])) ≡ Unreadable
-  pub minus_alone : signed_of (45 ∷ []) ≡ Unreadable
-  pub plain : signed_of (text (2 ∷ 1 ∷ [])) ≡ Is false 21
+  pub unasked : number_of (45 ∷ text (1 ∷ [])) ≡ None
+  pub minus : signed_of (45 ∷ largest) ≡ number true 4294967295
+  pub minus_over : signed_of (45 ∷ too_large) ≡ None
+  pub minus_zero : signed_of (45 ∷ text (0 ∷ [])) ≡ None
+  pub minus_alone : signed_of (45 ∷ []) ≡ None
+  pub plain : signed_of (text (2 ∷ 1 ∷ [])) ≡ number false 21
 
 pub numbers : Numbers
 unfolding is_digit all_digits value_after is_empty well_begun number_of with_minus signed_of
 numbers =
-    record { zero = refl; led = refl; greatest = refl; over = refl; unasked = refl; minus = refl; minus_over = refl; minus_zero = refl; minus_alone = refl; plain = refl }
+    record { empty = refl; zero = refl; led = refl; greatest = refl; over = refl; unasked = refl; minus = refl; minus_over = refl; minus_zero = refl; minus_alone = refl; plain = refl }
 
 pub record Digits : Type 0 where
   pub zero : digits 0 ≡ text (0 ∷ [])

@@ -8,8 +8,7 @@ use mathlib.Core.List.{List, [], ◌∷◌, ◌++◌}
 use native.Mathlib.Omega.{arith}
 use lib.Dec.{eqb}
 use borrow.Author.Tests.{ne_eqb, le-leb, eqb-true, eqb-false}
-use Rattle.lines.specs.declared.Number.TheVariants.{Is}
-use Rattle.lines.specs.Numbers.{is_digit, all_digits, value_after, is_empty, well_begun, number_of}
+use Rattle.lines.specs.Numbers.{is_digit, all_digits, value_after, is_empty, well_begun, number, number_of}
 use Rattle.lines.specs.Digits.{leading_in, leading, digits}
 
 value-snoc : (h : ℕ) (xs : List ℕ) (b : ℕ) → value_after h (xs ++ b ∷ []) ≡ value_after h xs * 10 + (b - 48)
@@ -77,6 +76,6 @@ digits_decimal n =
       value = value-snoc 0 (leading (n / 10)) (48 + n % 10) ∙ omega (arith, l.value);
     }
 
-pub digits-read : (n : ℕ) → n ≤ 4294967295 → number_of (digits n) ≡ Is false n
+pub digits-read : (n : ℕ) → n ≤ 4294967295 → number_of (digits n) ≡ number false n
 unfolding number_of
 digits-read n h = let d = digits_decimal n in rw (d.begun, d.every, d.value, le-leb n 4294967295 h)

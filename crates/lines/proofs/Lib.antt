@@ -1,6 +1,6 @@
 -- Laws of the definitions of specs/.
 --     SplitLaws    the first part of a text, and the parts behind it
---     TextLaws     two texts compared, the beginning of a number, a list with 0 behind it
+--     TextLaws     two texts compared, a list with 0 behind it
 --     NumberLaws   the number that a text is, digit by digit
 --     TableLaws    the numbers behind a word, field by field
 --     StepLaws     the code's steps come to the definitions

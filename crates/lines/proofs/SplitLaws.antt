@@ -1,7 +1,7 @@
 -- The first part of a text, and the parts behind it, over the separator. By induction on the text. Assumes nothing.
 --     part_length-le                       it ends in the text
+--     part_length-position                 it ends where `position` finds the separator, or at the end
 --     split-first                         a text's parts: the first, and those behind it
---     part_length-end, -at, -other         at the end, at a separator, at another byte
 --     parts_behind-end                     no part is left
 --     part-whole                          the part of a text from a byte to the end
 --     NextPart, next-at, next-part        the part after a separator, and those behind it
@@ -12,9 +12,12 @@ use mathlib.Core.List.{List, [], ◌∷◌}
 use native.Mathlib.Numerals.{add-one}
 use native.Mathlib.Omega.{arith}
 use lib.Dec.{eqb}
-use lib.ListN.{length, get_or, take, drop, length-drop, drop_of_length-le}
+use lib.ListN.{length, take, drop, length-drop, drop_of_length-le}
 use lib.Seq.{drop-cons, drop-drop, take_all}
-use borrow.Author.Tests.{eq-eqb, ne_eqb}
+use Rattle.std.specs.List.{position, position_or_len}
+use Rattle.std.specs.Option.{unwrap_or}
+use Rattle.std.proofs.lemmas.List.Recursion.{is_position_or_len}
+use Rattle.std.proofs.lemmas.Bool.Decides.{nat_tests}
 use Rattle.lines.specs.Texts.{before, split, part_length, parts_behind}
 
 -- a part up to the end is all that is left
@@ -33,6 +36,17 @@ module _ (s : ℕ) where
   part_length-le [] = zero-le
   part_length-le (b ∷ text) = le_step (eqb b s) (part_length s text) (length text) (part_length-le text)
 
+  add-left_one : (n : ℕ) → suc n ≡ 1 + n
+  add-left_one n = omega arith
+
+  pub part_length-position : (text : List ℕ) → unwrap_or (position (λ (b : ℕ). eqb b s) text) (length text) ≡ part_length s text
+  unfolding part_length
+  part_length-position text =
+      let step = λ (b : ℕ) (rest : List ℕ). ap (cond (eqb b s) 0) (add-left_one (part_length s rest)) in
+      let same : part_length s text ≡ position_or_len (λ (b : ℕ). eqb b s) text = is_position_or_len (part_length s) (λ (b : ℕ). eqb b s) refl step text in
+      let within = part_length-le text in
+      rw (← same) (grind (arith, nat_tests))
+
   -- one byte more in front, where the test for a separator gives t
   first_step : (t : Bool) (b n : ℕ) (text : List ℕ)
       → split s text ≡ take n text ∷ parts_behind s (drop n text)
@@ -49,18 +63,6 @@ module _ (s : ℕ) where
   -- ---- at a byte
 
   module _ (text : List ℕ) (i : ℕ) where
-    pub part_length-end : length text ≤ i → part_length s (drop i text) ≡ 0
-    unfolding part_length
-    part_length-end h = ap (part_length s) (drop_of_length-le text h)
-
-    pub part_length-at : i < length text → get_or text i 0 ≡ s → part_length s (drop i text) ≡ 0
-    unfolding part_length
-    part_length-at h e = rw (drop-cons text i 0 h, eq-eqb (get_or text i 0) s e)
-
-    pub part_length-other : i < length text → (get_or text i 0 ≡ s → ⊥) → part_length s (drop i text) ≡ suc (part_length s (drop (i + 1) text))
-    unfolding part_length
-    part_length-other h e = rw (drop-cons text i 0 h, ne_eqb (get_or text i 0) s e, add-one i)
-
     -- ---- the parts behind
 
     pub parts_behind-end : length text ≤ i → parts_behind s (drop i text) ≡ []

@@ -1,15 +1,15 @@
 -- The code's steps come to the definitions: bytes added to a line, lines counted, parts collected. Assumes nothing.
 --     byte-kept, byte-lost                 one more byte, by the length of the line
 --     added-end, added-kept, added-lost    bytes added from a byte on, by the length of the line
---     count_next, count-again              the count after a line
+--     next-empty                           the line after another, before its first byte
 --     collected-ended, collected-open      a part with a newline, and one without
-use Prim.Native.Nat.{ℕ, ◌+◌, ◌%◌, ◌^◌, ◌≤◌, ◌<◌, min}
+use Prim.Native.Nat.{ℕ, ◌+◌, ◌≤◌, ◌<◌, min}
 use native.Mathlib.Nat.{min-eq_left, min-eq_right}
 use native.Mathlib.Numerals.{add-one}
 use native.Mathlib.Omega.{arith}
-use mathlib.Core.Path.{◌≡◌, sym, ap, ◌∙◌}
+use mathlib.Core.Path.{◌≡◌, refl, sym, ap, ◌∙◌}
 use mathlib.Core.Bool.{true, false}
-use mathlib.Core.List.{List}
+use mathlib.Core.List.{List, []}
 use lib.ListN.{length, take, drop, set, get_or, drop_of_length-le}
 use lib.Seq.{drop-cons}
 use borrow.Author.Tests.{lt-ltb, le-ltb}
@@ -17,7 +17,7 @@ use Rattle.lines.specs.declared.Line.{Line}
 use Rattle.lines.specs.declared.Lines.{Lines}
 use Rattle.lines.specs.declared.Collected.{Collected}
 use Rattle.lines.specs.Texts.{part_length}
-use Rattle.lines.specs.Collecting.{with_byte, added, next_lines, collected}
+use Rattle.lines.specs.Collecting.{line_text, with_byte, added, next_lines, collected}
 
 -- ---- one more byte, by the length of the line
 
@@ -46,18 +46,10 @@ module _ (l : Line) (more : List ℕ) (i : ℕ) where
     pub added-lost : 120 ≤ l.length → added (record { length = 121; bytes = l.bytes }) (drop (i + 1) more) ≡ added l (drop i more)
     added-lost s = ap (λ (m : Line). added m (drop (i + 1) more)) (byte-lost l (get_or more i 0) s) ∙ first
 
--- ---- the count of lines
-module _ (s : Lines) where
-  abbrev next : ℕ → Lines
-  next n = record { count = n; line = record { length = 0; bytes = s.line.bytes } }
-
-  pub count_next : s.count < 18446744073709551615 → next (s.count + 1) ≡ next_lines s
-  unfolding next_lines
-  count_next h = let e : s.count + 1 ≡ (s.count + 1) % 2 ^ 64 = omega arith in ap next e
-
-  pub count-again : 18446744073709551615 ≤ s.count → s.count < 2 ^ 64 → next 0 ≡ next_lines s
-  unfolding next_lines
-  count-again h f = let e : 0 ≡ (s.count + 1) % 2 ^ 64 = omega arith in ap next e
+-- ---- the next line has no bytes yet
+pub next-empty : (s : Lines) → line_text (next_lines s).line ≡ []
+unfolding line_text next_lines
+next-empty s = refl
 
 -- ---- a part collected
 module _ (s : Lines) (part : List ℕ) {n : ℕ} {l : Line} (e : n ≡ part_length 10 part) (a : l ≡ added s.line (take n part)) where

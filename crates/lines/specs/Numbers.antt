@@ -1,7 +1,7 @@
 -- Numbers in a text (scope paper, "The sheet program"). Assumes nothing.
-use Rattle.std.specs.Prelude.{ℕ, ◌+◌, ◌-◌, ◌*◌, Bool, true, false, not, cond, ◌&&◌, ◌||◌, List, [], ◌∷◌, leb, eqb, length, replicate}
+use Rattle.std.specs.Prelude.{ℕ, ◌+◌, ◌-◌, ◌*◌, Bool, true, false, not, cond, ◌&&◌, ◌||◌, List, [], ◌∷◌, leb, eqb, length, Option, None, Some}
+use Rattle.std.specs.Option.{option_and_then}
 use Rattle.lines.specs.declared.Number.{Number}
-use Rattle.lines.specs.declared.Number.TheVariants.{Unreadable, Is}
 use Rattle.lines.specs.declared.Numbers.{Numbers}
 use Rattle.lines.specs.Texts.{padded, parts_behind}
 
@@ -28,48 +28,45 @@ unfoldable pub well_begun : List ℕ → Bool
 well_begun [] = false
 well_begun (b ∷ text) = is_empty text || not (eqb b 48)
 
+-- the number of a sign and a value
+abbrev pub number : Bool → ℕ → Option Number
+number minus value = Some (record { minus = minus; value = value })
+
 -- digits up to 4294967295, no leading zero save 0 itself
-unfoldable pub number_of : List ℕ → Number
-number_of text = cond (well_begun text && all_digits text && leb (value_after 0 text) 4294967295) (Is false (value_after 0 text)) Unreadable
+unfoldable pub number_of : List ℕ → Option Number
+number_of text = cond (well_begun text && all_digits text && leb (value_after 0 text) 4294967295) (number false (value_after 0 text)) None
 
 -- a minus stands before a number that is not 0
-unfoldable pub with_minus : Number → Number
-with_minus Unreadable = Unreadable
-with_minus (Is minus n) = cond (eqb n 0) Unreadable (Is true n)
+unfoldable pub with_minus : Number → Option Number
+with_minus n = cond (eqb n.value 0) None (number true n.value)
 
 -- a number where a minus may stand before it
-unfoldable pub signed_of : List ℕ → Number
-signed_of [] = Unreadable
-signed_of (b ∷ text) = cond (eqb b 45) (with_minus (number_of text)) (number_of (b ∷ text))
+unfoldable pub signed_of : List ℕ → Option Number
+signed_of [] = None
+signed_of (b ∷ text) = cond (eqb b 45) (option_and_then with_minus (number_of text)) (number_of (b ∷ text))
 
 -- ---- the numbers of fields
 
--- all fields are numbers: their list
-pub data Listed : Type 0 where
-  none : Listed
-  all : List ℕ → Listed
+-- a number before others, if all of them are numbers
+unfoldable pub and_number : Option Number → Option (List ℕ) → Option (List ℕ)
+and_number None rest = None
+and_number (Some n) None = None
+and_number (Some n) (Some ns) = Some (n.value ∷ ns)
 
-unfoldable pub and_number : Number → Listed → Listed
-and_number Unreadable rest = none
-and_number (Is minus n) none = none
-and_number (Is minus n) (all ns) = all (n ∷ ns)
-
-unfoldable pub listed : List (List ℕ) → Listed
-listed [] = all []
+-- the list of the fields' numbers, if all fields are numbers
+unfoldable pub listed : List (List ℕ) → Option (List ℕ)
+listed [] = Some []
 listed (field ∷ fields) = and_number (number_of field) (listed fields)
 
--- no table of numbers
-abbrev pub no_numbers : Numbers
-no_numbers = record { count = 8; values = replicate 7 0 }
-
 -- at most seven numbers as a table, 0 behind them
-unfoldable pub in_table : Listed → Numbers
-in_table none = no_numbers
-in_table (all ns) = cond (leb (length ns) 7) (record { count = length ns; values = padded 7 ns }) no_numbers
+unfoldable pub in_table : Option (List ℕ) → Option Numbers
+in_table None = None
+in_table (Some ns) = cond (leb (length ns) 7) (Some (record { count = length ns; values = padded 7 ns })) None
 
-unfoldable pub numbers_of : List (List ℕ) → Numbers
+-- the numbers of fields: none if a field is no number, or there are over seven
+unfoldable pub numbers_of : List (List ℕ) → Option Numbers
 numbers_of fields = in_table (listed fields)
 
 -- the numbers behind a field, from the text that follows it
-abbrev pub numbers_behind : List ℕ → Numbers
+abbrev pub numbers_behind : List ℕ → Option Numbers
 numbers_behind rest = numbers_of (parts_behind 9 rest)

@@ -1,7 +1,7 @@
 // Lines of a text, and what stands in a line: the types of lines and numbers (scope paper, "The sheet program"). The calls are in `lines_calls`.
 #![tactic(auto)]
 
-// A line: its length, held at 121, and its first 120 bytes.
+// A line: its length, held at 121, and its first 120 bytes. The C interface holds a text so (olsketina_script_*), and there is no heap.
 #[derive(Clone, Copy)]
 pub struct Line {
     pub length: u32,
@@ -25,12 +25,12 @@ pub struct Collected {
 
 // The number that a text is: whether a minus stands before it, and its digits' value.
 #[derive(Clone, Copy)]
-pub enum Number {
-    Unreadable,
-    Is(bool, u32),
+pub struct Number {
+    pub minus: bool,
+    pub value: u32,
 }
 
-// Numbers, the first `count` of the values, the others 0; the count is 8 if a field is no number or there are over 7.
+// Numbers, the first `count` of the values, the others 0. A table in place of a Vec: this library has no heap.
 #[derive(Clone, Copy)]
 pub struct Numbers {
     pub count: usize,

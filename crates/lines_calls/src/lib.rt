@@ -3,22 +3,24 @@
 
 ghost use Rattle.std.specs.Prelude.{◌≡◌};
 ghost use Rattle.lines.specs.Texts.{part_length, same_text};
-ghost use Rattle.lines.specs.Numbers.{well_begun, number_of, with_minus, signed_of, no_numbers, numbers_behind};
+ghost use Rattle.lines.specs.Numbers.{well_begun, number_of, with_minus, signed_of, numbers_behind};
 ghost use Rattle.lines.specs.Digits.{digits, numeral, signed};
 ghost use Rattle.lines.specs.Sums.{mixed, checksum};
 ghost use Rattle.lines.specs.Collecting.{empty_line, added, is_whole, start_lines, next_lines, collected};
 
 use lines::{Collected, Line, Lines, Number, Numbers};
 
+// The largest number that a text may be.
+const LARGEST: u64 = 4294967295;
+
 // ---- lines
 // A line of no bytes.
 pub fn empty() -> Line
     ensures { result ≡ empty_line }
 {
-    let bytes = [0u8; 120];
     Line {
         length: 0,
-        bytes: bytes,
+        bytes: [0; 120],
     }
 }
 
@@ -26,24 +28,19 @@ pub fn empty() -> Line
 pub fn add(line: Line, more: &[u8]) -> Line
     ensures { result ≡ added line more.now }
 {
-    let mut bytes = line.bytes;
-    let mut n = line.length;
-    let mut i: usize = 0;
-    while i < more.len() {
-        let b = more[i];
-        i += 1;
-        if n < 120 {
-            let at = n as usize;
-            bytes[at] = b;
-            n += 1;
+    let Line {
+        mut length,
+        mut bytes,
+    } = line;
+    for &b in more {
+        if length < 120 {
+            bytes[length as usize] = b;
+            length += 1;
         } else {
-            n = 121;
+            length = 121;
         }
     }
-    Line {
-        length: n,
-        bytes: bytes,
-    }
+    Line { length, bytes }
 }
 
 // Whether a line has at most 120 bytes, so that all of them are kept.
@@ -57,10 +54,9 @@ pub fn whole(line: Line) -> bool
 pub fn begin() -> Lines
     ensures { result ≡ start_lines }
 {
-    let line = empty();
     Lines {
         count: 0,
-        line: line,
+        line: empty(),
     }
 }
 
@@ -68,46 +64,35 @@ pub fn begin() -> Lines
 pub fn collect(lines: Lines, part: &[u8]) -> Collected
     ensures { result ≡ collected lines part.now }
 {
-    let n = part_length(part, 10);
-    let before = lines.line;
-    let line = add(before, &part[..n]);
-    let after = Lines {
-        count: lines.count,
-        line: line,
-    };
+    let n = part_length(part, b'\n');
+    let line = add(lines.line, &part[..n]);
+    let lines = Lines { line, ..lines };
     if n < part.len() {
-        return Collected {
-            lines: after,
+        Collected {
+            lines,
             read: n + 1,
             ended: true,
-        };
-    }
-    Collected {
-        lines: after,
-        read: n,
-        ended: false,
+        }
+    } else {
+        Collected {
+            lines,
+            read: n,
+            ended: false,
+        }
     }
 }
 
 // The line in progress ends, and the next begins. After 2^64 − 1 lines the count begins again.
+#[tactic(auto, unfolding(lines::specs::Collecting::next_lines))]
 pub fn next(lines: Lines) -> Lines
     ensures { result ≡ next_lines lines }
 {
-    let ended = lines.line;
-    let bytes = ended.bytes;
-    let line = Line {
-        length: 0,
-        bytes: bytes,
-    };
-    if lines.count < 18446744073709551615 {
-        return Lines {
-            count: lines.count + 1,
-            line: line,
-        };
-    }
     Lines {
-        count: 0,
-        line: line,
+        count: lines.count.wrapping_add(1),
+        line: Line {
+            length: 0,
+            ..lines.line
+        },
     }
 }
 
@@ -116,135 +101,95 @@ pub fn next(lines: Lines) -> Lines
 pub fn part_length(text: &[u8], separator: u8) -> usize
     ensures { result ≡ part_length separator text.now }
 {
-    let mut i: usize = 0;
-    while i < text.len() {
-        if text[i] == separator {
-            return i;
-        }
-        i += 1;
-    }
-    i
+    text.iter()
+        .position(|&b| b == separator)
+        .unwrap_or(text.len())
 }
 
 // Whether two texts are the same.
 pub fn same(text: &[u8], word: &[u8]) -> bool
     ensures { result ≡ same_text text.now word.now }
 {
-    if text.len() != word.len() {
-        return false;
-    }
-    let mut i: usize = 0;
-    while i < text.len() {
-        if text[i] != word[i] {
-            return false;
-        }
-        i += 1;
-    }
-    true
+    text == word
 }
 
 // ---- numbers
 // Whether a text begins as a number does: no leading zero, save 0 itself.
+#[tactic(auto, unfolding(lines::specs::Numbers::well_begun, lines::specs::Numbers::is_empty))]
 fn well_begun(text: &[u8]) -> bool
     ensures { result ≡ well_begun text.now }
 {
-    if text.len() == 0 {
-        return false;
+    match text {
+        [] => false,
+        [_] => true,
+        [first, ..] => *first != b'0',
     }
-    if text.len() == 1 {
-        return true;
-    }
-    text[0] != 48
 }
 
 // The number that a text is: digits up to 4294967295.
-pub fn read_number(text: &[u8]) -> Number
+pub fn read_number(text: &[u8]) -> Option<Number>
     ensures { result ≡ number_of text.now }
 {
     if !well_begun(text) {
-        return Number::Unreadable;
+        return None;
     }
     let mut high: u64 = 0;
-    let mut i: usize = 0;
-    while i < text.len() {
-        let b = text[i];
-        if b < 48 {
-            return Number::Unreadable;
+    for &b in text {
+        if !b.is_ascii_digit() {
+            return None;
         }
-        if 57 < b {
-            return Number::Unreadable;
+        high = high * 10 + u64::from(b - b'0');
+        if LARGEST < high {
+            return None;
         }
-        high = high * 10 + (b - 48) as u64;
-        if 4294967295 < high {
-            return Number::Unreadable;
-        }
-        i += 1;
     }
-    Number::Is(false, high as u32)
+    Some(Number {
+        minus: false,
+        value: high as u32,
+    })
 }
 
 // A number with a minus before it, if it is not 0.
-fn negated(n: Number) -> Number
+#[tactic(auto, unfolding(lines::specs::Numbers::with_minus))]
+fn negated(n: Number) -> Option<Number>
     ensures { result ≡ with_minus n }
 {
-    let Number::Is(_, value) = n else {
-        return Number::Unreadable;
-    };
-    if value == 0 {
-        return Number::Unreadable;
+    if n.value == 0 {
+        return None;
     }
-    Number::Is(true, value)
+    Some(Number { minus: true, ..n })
 }
 
 // The number that a text is where a minus may stand before it.
-pub fn read_signed(text: &[u8]) -> Number
+pub fn read_signed(text: &[u8]) -> Option<Number>
     ensures { result ≡ signed_of text.now }
 {
-    if text.len() == 0 {
-        return Number::Unreadable;
-    }
-    if text[0] == 45 {
-        return negated(read_number(&text[1..]));
-    }
-    read_number(text)
-}
-
-// No table of numbers.
-fn no_numbers() -> Numbers
-    ensures { result ≡ no_numbers }
-{
-    let values = [0u32; 7];
-    Numbers {
-        count: 8,
-        values: values,
+    match text.strip_prefix(b"-") {
+        Some(digits) => negated(read_number(digits)?),
+        None => read_number(text),
     }
 }
 
 // The numbers behind a field, from the text that follows it: each has a tab before it.
-pub fn read_numbers(rest: &[u8]) -> Numbers
+pub fn read_numbers(rest: &[u8]) -> Option<Numbers>
     ensures { result ≡ numbers_behind rest.now }
 {
     let mut values = [0u32; 7];
     let mut count: usize = 0;
     let mut at: usize = 0;
+    // A while: it goes on by each field's length, not by one.
     while at < rest.len() {
         if count == 7 {
-            return no_numbers();
+            return None;
         }
         let from = at + 1;
-        let end = from + part_length(&rest[from..], 9);
-        let n = read_number(&rest[from..end]);
-        let Number::Is(_, value) = n else {
-            return no_numbers();
-        };
-        values[count] = value;
+        let end = from + part_length(&rest[from..], b'\t');
+        let n = read_number(&rest[from..end])?;
+        values[count] = n.value;
         count += 1;
         at = end;
     }
-    Numbers {
-        count: count,
-        values: values,
-    }
+    Some(Numbers { count, values })
 }
 
 // ---- numbers as text
@@ -253,13 +198,14 @@ pub fn add_number(line: Line, n: u64) -> Line
     ensures { result ≡ added line (digits n) }
 {
     let mut text = [0u8; 20];
-    text[19] = 48 + (n % 10) as u8;
+    text[19] = b'0' + (n % 10) as u8;
     let mut at: usize = 19;
     let mut rest = n / 10;
+    // A while: it ends where nothing is left of the number.
     while 0 < rest {
         at -= 1;
-        text[at] = 48 + (rest % 10) as u8;
-        rest = rest / 10;
+        text[at] = b'0' + (rest % 10) as u8;
+        rest /= 10;
     }
     add(line, &text[at..])
 }
@@ -268,33 +214,26 @@ pub fn add_number(line: Line, n: u64) -> Line
 pub fn add_signed(line: Line, minus: bool, n: u64) -> Line
     ensures { result ≡ added line (numeral (signed minus n)) }
 {
-    if !minus {
-        return add_number(line, n);
+    if minus && n != 0 {
+        let begun = add(line, b"-");
+        add_number(begun, n)
+    } else {
+        add_number(line, n)
     }
-    if n == 0 {
-        return add_number(line, n);
-    }
-    let begun = add(line, b"-");
-    add_number(begun, n)
 }
 
 // ---- checksums
 // A checksum with one byte more.
+#[tactic(auto, unfolding(lines::specs::Sums::mixed))]
 fn mixed_in(sum: u64, b: u8) -> u64
     ensures { result ≡ mixed sum b }
 {
-    (sum % 4294967296 * 65599 + b as u64 + 1) % 4294967296
+    (sum % 4294967296 * 65599 + u64::from(b) + 1) % 4294967296
 }
 
 // A checksum with more bytes.
 pub fn summed(before: u64, text: &[u8]) -> u64
     ensures { result ≡ checksum before text.now }
 {
-    let mut sum = before;
-    let mut i = 0;
-    while i < text.len() {
-        sum = mixed_in(sum, text[i]);
-        i += 1;
-    }
-    sum
+    text.iter().fold(before, |sum, &b| mixed_in(sum, b))
 }

@@ -17,7 +17,7 @@ returns-then-n-part c =
     let a = c.args in
     collected-ended a.lines a.part.now c.part_length-n.ensures c.add-line.ensures c.if-n-part.true
 
-pub returns : goal.returns
-returns c =
+pub returns-else-n-part : goal.returns-else-n-part
+returns-else-n-part c =
     let a = c.args in
     collected-open a.lines a.part.now c.part_length-n.ensures c.add-line.ensures c.if-n-part.false

@@ -1,20 +1,16 @@
--- `lines_calls::part_length` meets its contract. The loop's invariant: the part is i bytes longer than what is left of it. The measure is what is left of
--- the text. Assumes nothing.
-use native.Mathlib.Omega.{arith}
-use Rattle.lines.proofs.SplitLaws.{part_length-end, part_length-at, part_length-other}
+-- `lines_calls::part_length` meets its contract: the part ends where `position` finds the separator, or at the end. Assumes nothing.
+use Rattle.std.proofs.Common.{◌≡◌, ℕ, eqb, length, Option, ap, ◌∙◌, rules, tests}
+use Rattle.std.proofs.lemmas.Iterator.{YieldsList-from_slice}
+use Rattle.std.proofs.lemmas.Iterator.Search.{position_from_yields_List}
+use Rattle.std.specs.List.{position}
+use Rattle.std.specs.Option.{unwrap_or}
+use Rattle.lines.proofs.SplitLaws.{part_length-position}
 use Rattle.lines_calls.proofs.part_length.Goals as goal
 
-pub returns-then-text-i : goal.returns-then-text-i
-returns-then-text-i c =
-    let l = c.loop-i in
-    let a = c.args in
-    omega (arith, part_length-at a.separator a.text.now l.i (omega arith) c.if-text-i.true)
-
-pub loop-i-preserved : goal.loop-i-preserved
-loop-i-preserved c =
-    let l = c.loop-i in
-    let a = c.args in
-    (omega arith, omega (arith, part_length-other a.separator a.text.now l.i (omega arith) c.if-text-i.false))
-
 pub returns : goal.returns
-returns c = let a = c.args in omega (arith, part_length-end a.separator a.text.now c.loop-i.i (omega arith))
+returns c =
+    let a = c.args in
+    let text = a.text.now in
+    let found : c.position.result ≡ position (λ (b : ℕ). eqb b a.separator) text =
+    position_from_yields_List (λ (b : ℕ). eqb b a.separator) _ _ c.position.result c.position.ensures.ran (YieldsList-from_slice text cc) (λ x b q k. search (rules, tests)) in
+    c.unwrap_or.ensures ∙ ap (λ (o : Option ℕ). unwrap_or o (length text)) found ∙ part_length-position a.separator text

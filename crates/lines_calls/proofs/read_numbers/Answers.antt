@@ -22,7 +22,7 @@ returns-then-count-eq7 c =
     let l = c.loop-at in
     let rest = c.args.rest.now in
     let eighth = next-at 9 rest l.at (part_length 9 (drop (l.at + 1) rest)) (omega arith) refl in
-    c.no_numbers.ensures ∙ table-eighth _ l.count l.values _ l.invariant.2 _ _ eighth.parts c.if-count-eq7.true
+    table-eighth _ l.count l.values _ l.invariant.2 _ _ eighth.parts c.if-count-eq7.true
 
 pub overflow_add-end : goal.overflow_add-end
 overflow_add-end c = let e = (next c).ends in search rules
@@ -30,19 +30,17 @@ overflow_add-end c = let e = (next c).ends in search rules
 pub slice_bounds-read_number-end : goal.slice_bounds-read_number-end
 slice_bounds-read_number-end c = let e = (next c).ends in search rules
 
-pub returns-in_default : goal.returns-in_default
-returns-in_default c =
+pub returns-in_err-n : goal.returns-in_err-n
+returns-in_err-n c =
     let l = c.loop-at in
     let n = next-part 9 c.args.rest.now l.at c.part_length.result (omega arith) c.part_length.ensures in
-    let bad = sym c.read_number-n.ensures ∙ c.in_default.is in
-    c.no_numbers-in_default.ensures ∙ table-no-number _ l.count l.values _ l.invariant.2 _ _ n.parts bad
+    c.from_residual.ensures ∙ table-no-number _ l.count l.values _ l.invariant.2 _ _ n.parts (sym c.read_number.ensures ∙ c.in_err-n.was)
 
 pub loop-at-preserved : goal.loop-at-preserved
 loop-at-preserved c =
     let l = c.loop-at in
     let n = next-part 9 c.args.rest.now l.at c.part_length.result (omega arith) c.part_length.ensures in
-    let good = sym c.read_number-n.ensures ∙ c.in-Is.is in
-    (n.ends, omega arith, table-next _ l.count l.values _ l.invariant.2 _ _ n.parts _ _ good (omega arith))
+    (n.ends, omega arith, table-next _ l.count l.values _ l.invariant.2 _ _ n.parts c.in_ok-n.n (sym c.read_number.ensures ∙ c.in_ok-n.was) (omega arith))
 
 pub returns : goal.returns
 returns c =

@@ -1,23 +1,12 @@
--- `lines_calls::summed` meets its contract. The loop's invariant: the rest of the bytes mixed into the checksum so far come to all of them. The measure is
--- what is left of the bytes. Assumes nothing.
-use Prim.Native.Nat.{ℕ, ◌+◌}
-use mathlib.Core.Path.{ap, ◌∙◌}
-use native.Mathlib.Omega.{arith}
+-- `lines_calls::summed` meets its contract: the checksum is the fold of the bytes. Assumes nothing.
+use mathlib.Core.Path.{◌≡◌, ◌∙◌}
 use borrow.Author.Rules.{rules}
-use lib.ListN.{drop}
-use Rattle.lines.specs.Sums.{checksum}
-use Rattle.lines.proofs.SumLaws.{checksum-end, checksum-next}
+use Rattle.std.specs.List.{fold}
+use Rattle.lines.specs.Sums.{mixed}
+use Rattle.lines.proofs.SumLaws.{checksum-fold}
 use Rattle.lines_calls.proofs.summed.Goals as goal
-
-pub loop-i-preserved : goal.loop-i-preserved
-loop-i-preserved c =
-    let text = c.args.text.now in (
-      search rules,
-      ap (λ (k : ℕ). checksum k (drop (c.loop-i.i + 1) text)) c.mixed_in-sum.ensures
-          ∙ checksum-next c.loop-i.sum text c.loop-i.i c.loop-i-test.true
-          ∙ c.loop-i.invariant.1,
-    )
 
 pub returns : goal.returns
 returns c =
-    checksum-end c.loop-i.sum c.args.text.now c.loop-i.i (omega arith) ∙ c.loop-i.invariant.1
+    let folded : c.fold.result ≡ fold mixed c.args.before c.args.text.now = search rules in
+    folded ∙ checksum-fold c.args.text.now c.args.before
