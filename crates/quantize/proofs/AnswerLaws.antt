@@ -1,5 +1,5 @@
 -- The limits of a precision, the range of a converted value, and the checks as the code goes through them. Assumes nothing.
---     lowest-zero .. highest-other          the limits, by the precision
+--     limits-zero, limits-other             the limits, by the precision
 --     saturated-value, quantized-fits       the converted value from the rounded number; it fits 16 bits
 --     beyond-limited                        whether it was held
 --     answer-refused, answer-value          the answer, by the checks
@@ -12,35 +12,25 @@ use borrow.Author.Tests.{lt-ltb, le-ltb, le-leb, lt-leb, ltb-true, leb-true}
 use mir.Syntax.{w16}
 use mir.Val.{SFits}
 use mir.Facts.{sfits_lit}
-use Rattle.refusal.specs.declared.Answer.TheVariants.{Accepted, Refused}
-use Rattle.refusal.specs.declared.Refusal.{Refusal}
+use Rattle.refusal.specs.declared.Fault.{Fault}
+use Rattle.std.specs.Prelude.{Ok, Err}
 use Rattle.refusal.specs.declared.Refusal.TheVariants.{Precision, Shift}
-use Rattle.refusal.specs.Checks.{in_order}
-use Rattle.refusal.proofs.CheckLaws.{Held, in_order-all, require_at-held, in_order-nil, in_order-next, in_order-stop, result-given, result-refused}
+use Rattle.refusal.specs.Checks.{in_order, Accepted, Refused}
+use Rattle.refusal.proofs.CheckLaws.{Held, in_order-all, require_at-held, in_order-nil, in_order-next, in_order-stop, given-accepted, given-refused}
 use Rattle.integers.specs.Saturate.{saturate, beyond}
 use Rattle.integers.proofs.SaturateLaws.{fits-saturate}
-use Rattle.quantize.specs.declared.Quantized.TheVariants.{Value, Refused as NotGiven}
 use Rattle.quantize.specs.Quantize.{lowest, highest, quantize_checks, rounded, quantized, limited, conversion, quantize_answer}
 
 -- ---- the limits
 
-pub lowest-zero : {p : ℕ} → p ≡ 0 → negsuc 127 ≡ lowest p
-unfolding lowest
-lowest-zero e = rw e
+pub limits-zero : {p : ℕ} → p ≡ 0 → (negsuc 127 ≡ lowest p) × (pos 127 ≡ highest p)
+unfolding lowest highest
+limits-zero e = (rw e, rw e)
 
-pub lowest-other : (p : ℕ) → (p ≡ 0 → ⊥) → negsuc 32767 ≡ lowest p
-unfolding lowest
-lowest-other zero f = absurd (f refl)
-lowest-other (suc p) f = refl
-
-pub highest-zero : {p : ℕ} → p ≡ 0 → pos 127 ≡ highest p
-unfolding highest
-highest-zero e = rw e
-
-pub highest-other : (p : ℕ) → (p ≡ 0 → ⊥) → pos 32767 ≡ highest p
-unfolding highest
-highest-other zero f = absurd (f refl)
-highest-other (suc p) f = refl
+pub limits-other : (p : ℕ) → (p ≡ 0 → ⊥) → (negsuc 32767 ≡ lowest p) × (pos 32767 ≡ highest p)
+unfolding lowest highest
+limits-other zero f = absurd (f refl)
+limits-other (suc p) f = (refl, refl)
 
 lowest-fits : (p : ℕ) → SFits w16 (lowest p)
 unfolding lowest
@@ -69,13 +59,13 @@ module _ (d offset scale : ℤ) (shift precision : ℕ) where
   unfolding quantized
   quantized-fits = fits-saturate (rounded d offset scale shift) (lowest-fits precision) (highest-fits precision)
 
-  pub answer-refused : {r : Refusal} {i : ℕ} → in_order (quantize_checks precision shift) ≡ Refused r i → NotGiven r i ≡ quantize_answer d offset scale shift precision
+  pub answer-refused : {f : Fault} → in_order (quantize_checks precision shift) ≡ Err f → Err f ≡ quantize_answer d offset scale shift precision
   unfolding quantize_answer
-  answer-refused e = sym (result-refused _ _ _ e)
+  answer-refused e = sym (given-refused _ e)
 
-  pub answer-value : in_order (quantize_checks precision shift) ≡ Accepted → Value (conversion d offset scale shift precision) ≡ quantize_answer d offset scale shift precision
+  pub answer-value : in_order (quantize_checks precision shift) ≡ Accepted → Ok (conversion d offset scale shift precision) ≡ quantize_answer d offset scale shift precision
   unfolding quantize_answer
-  answer-value e = sym (result-given _ _ _ e)
+  answer-value e = sym (given-accepted _ e)
 
 -- ---- the checks, one after another
 

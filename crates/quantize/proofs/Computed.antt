@@ -1,30 +1,31 @@
 -- Conversion, computed (scope paper, "Worked on squared paper"; "Refusal numbers": "Orders"; change request K5). Assumes nothing.
 use Prim.Native.Nat.{ℕ}
+use Rattle.std.specs.Prelude.{Result, Ok, Err}
 use mathlib.Core.Path.{◌≡◌, refl}
 use mathlib.Core.Bool.{true, false}
 use mathlib.Core.List.{[], ◌∷◌, map}
 use lib.IntN.{ℤ, pos, negsuc}
 use Rattle.refusal.specs.declared.Refusal.TheVariants.{Precision, Shift}
-use Rattle.refusal.specs.Codes.{answer_code}
-use Rattle.refusal.specs.Checks.{require_at, in_order, result}
+use Rattle.refusal.specs.declared.Fault.{Fault}
+use Rattle.refusal.specs.Codes.{answer_code, answer_of}
+use Rattle.refusal.specs.Checks.{require_at, in_order, given, refused_at}
 use Rattle.integers.specs.Saturate.{saturate, beyond}
-use Rattle.quantize.specs.declared.Quantized.{Quantized}
-use Rattle.quantize.specs.declared.Quantized.TheVariants.{Value, Refused as NotGiven}
-use Rattle.quantize.specs.Quantize.{lowest, highest, quantize_checks, nearest_of, nearest, rounded, quantized, limited, quantize_answer, quantized_answer, quantized_value, quantized_held}
+use Rattle.quantize.specs.declared.Converted.{Converted}
+use Rattle.quantize.specs.Quantize.{lowest, highest, quantize_checks, nearest_of, nearest, rounded, quantized, limited, quantize_answer, quantized_value, quantized_held}
 
 -- a value as it was, and one held at a limit
-abbrev kept : ℤ → Quantized
-kept z = Value (record { value = z; held = false })
+abbrev kept : ℤ → Result Converted Fault
+kept z = Ok (record { value = z; held = false })
 
-abbrev held : ℤ → Quantized
-held z = Value (record { value = z; held = true })
+abbrev held : ℤ → Result Converted Fault
+held z = Ok (record { value = z; held = true })
 
 -- d over 2^shift to a precision, with offset 0 and SF 1
-abbrev over : ℤ → ℕ → ℕ → Quantized
+abbrev over : ℤ → ℕ → ℕ → Result Converted Fault
 over d shift precision = quantize_answer d (pos 0) (pos 1) shift precision
 
 -- d to int8, with offset 128, SF 1 and shift 2
-abbrev quarter : ℤ → Quantized
+abbrev quarter : ℤ → Result Converted Fault
 quarter d = quantize_answer d (pos 128) (pos 1) 2 0
 
 pub record Computed : Type 0 where
@@ -53,15 +54,15 @@ pub record Computed : Type 0 where
   pub wide : over (pos 40000) 0 1 ≡ held (pos 32767)
   pub low : over (negsuc 40000) 0 1 ≡ held (negsuc 32767)
   -- 2 before 16
-  pub both : quantize_answer (pos 0) (pos 0) (pos 0) 32 2 ≡ NotGiven Precision 0
-  pub shift : quantize_answer (pos 0) (pos 0) (pos 0) 32 1 ≡ NotGiven Shift 0
+  pub both : quantize_answer (pos 0) (pos 0) (pos 0) 32 2 ≡ Err (refused_at 0 Precision)
+  pub shift : quantize_answer (pos 0) (pos 0) (pos 0) 32 1 ≡ Err (refused_at 0 Shift)
   -- the paper's number, value and flag
-  pub numbers : map answer_code (map quantized_answer (held (pos 127) ∷ NotGiven Precision 0 ∷ NotGiven Shift 0 ∷ [])) ≡ 0 ∷ 2 ∷ 16 ∷ []
-  pub values : map quantized_value (kept (negsuc 20) ∷ NotGiven Precision 0 ∷ []) ≡ negsuc 20 ∷ pos 0 ∷ []
-  pub flags : map quantized_held (kept (pos 127) ∷ held (pos 127) ∷ NotGiven Precision 0 ∷ []) ≡ false ∷ true ∷ false ∷ []
+  pub numbers : map answer_code (map answer_of (held (pos 127) ∷ Err (refused_at 0 Precision) ∷ Err (refused_at 0 Shift) ∷ [])) ≡ 0 ∷ 2 ∷ 16 ∷ []
+  pub values : map quantized_value (kept (negsuc 20) ∷ Err (refused_at 0 Precision) ∷ []) ≡ negsuc 20 ∷ pos 0 ∷ []
+  pub flags : map quantized_held (kept (pos 127) ∷ held (pos 127) ∷ Err (refused_at 0 Precision) ∷ []) ≡ false ∷ true ∷ false ∷ []
 
 pub computed : Computed
-unfolding require_at in_order saturate beyond lowest highest quantize_checks nearest_of nearest rounded quantized limited result quantize_answer
+unfolding require_at in_order saturate beyond lowest highest quantize_checks nearest_of nearest rounded quantized limited given quantize_answer
 computed =
     record {
       paper = refl;

@@ -1,14 +1,11 @@
 -- Integer conversion (scope paper, "Conversion", with change request K5): (d − offset)·SF, divided by 2^shift and rounded to the nearest, halves away from
 -- zero, then saturated. Assumes nothing.
-use Rattle.std.specs.Prelude.{ℕ, zero, suc, ◌+◌, ◌*◌, ◌/◌, ◌%◌, ◌^◌, Bool, false, cond, List, [], ◌∷◌, leb, ltb, ℤ, pos, negsuc, neg_ℤ, ◌-ℤ◌, ◌*ℤ◌}
+use Rattle.std.specs.Prelude.{ℕ, zero, suc, ◌+◌, ◌*◌, ◌/◌, ◌%◌, ◌^◌, Bool, false, cond, List, [], ◌∷◌, leb, ltb, ℤ, pos, negsuc, neg_ℤ, ◌-ℤ◌, ◌*ℤ◌, Result, Ok, Err}
 use Rattle.refusal.specs.declared.Refusal.TheVariants.{Precision, Shift}
-use Rattle.refusal.specs.declared.Answer.{Answer}
-use Rattle.refusal.specs.declared.Answer.TheVariants.{Accepted, Refused}
-use Rattle.refusal.specs.Checks.{require, in_order, result}
+use Rattle.refusal.specs.declared.Fault.{Fault}
+use Rattle.refusal.specs.Checks.{require, in_order, given, Answer}
 use Rattle.integers.specs.Saturate.{saturate, beyond}
 use Rattle.quantize.specs.declared.Converted.{Converted}
-use Rattle.quantize.specs.declared.Quantized.{Quantized}
-use Rattle.quantize.specs.declared.Quantized.TheVariants.{Value, Refused as NotGiven}
 
 -- the limits of a precision: -128..127 for int8, -32768..32767 for int16
 unfoldable pub lowest : ℕ → ℤ
@@ -49,20 +46,15 @@ abbrev pub conversion : ℤ → ℤ → ℤ → ℕ → ℕ → Converted
 conversion d offset scale shift precision = record { value = quantized d offset scale shift precision; held = limited d offset scale shift precision }
 
 -- the converted number where the call is accepted, else its refusal
-unfoldable pub quantize_answer : ℤ → ℤ → ℤ → ℕ → ℕ → Quantized
-quantize_answer d offset scale shift precision = result Value NotGiven (in_order (quantize_checks precision shift)) (conversion d offset scale shift precision)
+unfoldable pub quantize_answer : ℤ → ℤ → ℤ → ℕ → ℕ → Result Converted Fault
+quantize_answer d offset scale shift precision = given (in_order (quantize_checks precision shift)) (conversion d offset scale shift precision)
 
--- a conversion's answer: accepted where there is a value
-abbrev pub quantized_answer : Quantized → Answer
-quantized_answer (Value c) = Accepted
-quantized_answer (NotGiven r at) = Refused r at
-
--- its value, 0 where there is none
-abbrev pub quantized_value : Quantized → ℤ
-quantized_value (Value c) = c.value
-quantized_value (NotGiven r at) = pos 0
+-- a conversion's value, 0 where there is none
+abbrev pub quantized_value : Result Converted Fault → ℤ
+quantized_value (Ok c) = c.value
+quantized_value (Err fault) = pos 0
 
 -- whether it was held; false where there is none
-abbrev pub quantized_held : Quantized → Bool
-quantized_held (Value c) = c.held
-quantized_held (NotGiven r at) = false
+abbrev pub quantized_held : Result Converted Fault → Bool
+quantized_held (Ok c) = c.held
+quantized_held (Err fault) = false

@@ -5,34 +5,24 @@ ghost use Rattle.std.specs.Prelude.{◌≡◌, ◌≤◌, ◌^◌, nat_abs, ◌-
 ghost use Rattle.refusal.specs.Checks.{in_order};
 ghost use Rattle.quantize.specs.Quantize.{lowest, highest, quantize_checks, nearest, conversion, quantize_answer};
 
-use refusal::{Answer, Refusal};
+use refusal::{Answer, Fault, Refusal};
 
 // A converted number: its value, and whether the rounded number lay beyond a limit and was held to it.
-#[derive(Drop)]
+#[derive(Clone, Copy)]
 pub struct Converted {
     pub value: i16,
     pub held: bool,
 }
 
-// The converted number, or refused with the index at fault.
-#[derive(Drop)]
-pub enum Quantized {
-    Value(Converted),
-    Refused(Refusal, usize),
-}
-
-// The least value of a precision.
-fn lowest(precision: u32) -> i64
-    ensures { result ≡ lowest precision }
+// The limits of a precision: its least and its greatest value.
+fn limits(precision: u32) -> (i64, i64)
+    ensures { (result.0 ≡ lowest precision) × (result.1 ≡ highest precision) }
 {
-    if precision == 0 { -128 } else { -32768 }
-}
-
-// The greatest value of a precision.
-fn highest(precision: u32) -> i64
-    ensures { result ≡ highest precision }
-{
-    if precision == 0 { 127 } else { 32767 }
+    if precision == 0 {
+        (-128, 127)
+    } else {
+        (-32768, 32767)
+    }
 }
 
 // The difference from the offset, scaled.
@@ -61,8 +51,7 @@ fn conversion(d: i32, offset: i16, scale: i16, shift: u32, precision: u32) -> Co
 {
     let z = scaled(d, offset, scale);
     let y = nearest(z, shift);
-    let low = lowest(precision);
-    let high = highest(precision);
+    let (low, high) = limits(precision);
     Converted {
         value: integers::saturate(y, low, high) as i16,
         held: integers::beyond(y, low, high),
@@ -74,20 +63,24 @@ pub fn check(shift: u32, precision: u32) -> Answer
     ensures { result ≡ in_order (quantize_checks precision shift) }
 {
     if 2 <= precision {
-        return Answer::Refused(Refusal::Precision, 0);
+        return Err(Fault(Refusal::Precision, 0));
     }
     if 31 < shift {
-        return Answer::Refused(Refusal::Shift, 0);
+        return Err(Fault(Refusal::Shift, 0));
     }
-    Answer::Accepted
+    Ok(())
 }
 
 // (d - offset) * scale over 2^shift, to the nearest, halves away from zero, and saturated to the precision.
-pub fn convert(d: i32, offset: i16, scale: i16, shift: u32, precision: u32) -> Quantized
+pub fn convert(
+    d: i32,
+    offset: i16,
+    scale: i16,
+    shift: u32,
+    precision: u32,
+) -> Result<Converted, Fault>
     ensures { result ≡ quantize_answer d offset scale shift precision }
 {
-    match check(shift, precision) {
-        Answer::Refused(refusal, at) => Quantized::Refused(refusal, at),
-        Answer::Accepted => Quantized::Value(conversion(d, offset, scale, shift, precision)),
-    }
+    check(shift, precision)?;
+    Ok(conversion(d, offset, scale, shift, precision))
 }

@@ -3,7 +3,7 @@
 use Prim.Native.Nat.{◌^◌}
 use mathlib.Core.Path.{◌≡◌, sym, ap, subst, ◌∙◌}
 use lib.IntN.{ℤ}
-use borrow.Author.Rules.{sfits_of}
+use borrow.Author.Rules.{rules, sfits_of}
 use mir.Syntax.{w16, w64}
 use mir.Val.{SFits}
 use mir.Facts.{to_z-of_z}
@@ -24,12 +24,12 @@ rounded-is c =
 
 -- the limits and the rounded number, as both calls are handed them
 given : (h : goal.After-saturate) → let a = h.args in
-    (back h.lowest-low.result ≡ lowest a.precision) × (back h.highest-high.result ≡ highest a.precision) × (back h.nearest-y.result ≡ rounded a.d a.offset a.scale a.shift)
+    (back h.limits-low.result.0 ≡ lowest a.precision) × (back h.limits-low.result.1 ≡ highest a.precision) × (back h.nearest-y.result ≡ rounded a.d a.offset a.scale a.shift)
 given h =
     let l = h in
     let n = l in (
-      to_z-of_z {w = w64} (sfits_of l.lowest-low.type_inv) ∙ l.lowest-low.ensures,
-      to_z-of_z {w = w64} (sfits_of h.highest-high.type_inv) ∙ h.highest-high.ensures,
+      to_z-of_z {w = w64} (search rules) ∙ l.limits-low.ensures.0,
+      to_z-of_z {w = w64} (search rules) ∙ l.limits-low.ensures.1,
       to_z-of_z {w = w64} (sfits_of n.nearest-y.type_inv) ∙ rounded-is n,
     )
 

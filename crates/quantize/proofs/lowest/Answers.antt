@@ -1,9 +1,0 @@
--- `quantize::lowest` meets its contract: its cases are the definition's. Assumes nothing.
-use Rattle.quantize.proofs.AnswerLaws.{lowest-zero, lowest-other}
-use Rattle.quantize.proofs.lowest.Goals as goal
-
-pub returns-then-precision-eq0 : goal.returns-then-precision-eq0
-returns-then-precision-eq0 c = lowest-zero c.if-precision-eq0.true
-
-pub returns-else-precision-eq0 : goal.returns-else-precision-eq0
-returns-else-precision-eq0 c = lowest-other c.args.precision c.if-precision-eq0.false
