@@ -12,7 +12,7 @@ use lib.ListN.{length, get_or-append}
 use mir.Syntax.{w32}
 use mir.Val.{SFits}
 use Rattle.general.proofs.NumberLaws.{ud-fits}
-use Rattle.refusal.specs.declared.Answer.TheVariants.{Accepted}
+use Rattle.refusal.specs.Checks.{Accepted}
 use Rattle.lut.specs.declared.Table.{Table}
 use Rattle.lut.specs.declared.Table.TheVariants.{X, Y}
 use Rattle.lut.specs.declared.Side.TheVariants.{Hit}

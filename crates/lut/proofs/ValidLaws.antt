@@ -10,10 +10,10 @@ use lib.IntN.{ℤ}
 use lib.ListN.{length}
 use borrow.Author.Tests.{leb-true, eqb-true}
 use Rattle.general.proofs.TestLaws.{and_left, and_right, and-four}
-use Rattle.refusal.specs.declared.Answer.TheVariants.{Accepted, Refused}
-use Rattle.refusal.specs.declared.Refusal.{Refusal}
+use Rattle.std.specs.Prelude.{Err}
+use Rattle.refusal.specs.declared.Fault.{Fault}
 use Rattle.refusal.specs.declared.Refusal.TheVariants.{TableLength, XSelect, XEnd, YSelect, YEnd, Shift, Counters as CounterLimit, OutputLength}
-use Rattle.refusal.specs.Checks.{in_order}
+use Rattle.refusal.specs.Checks.{in_order, Accepted}
 use Rattle.refusal.proofs.CheckLaws.{Held, in_order-all, require_at-held, leaves-done, leaves-before}
 use Rattle.lut.specs.declared.LutSettings.{LutSettings}
 use Rattle.lut.specs.declared.Counters.{Counters}
@@ -62,7 +62,7 @@ module _ (s : LutSettings) (xs ys samples before : List ℤ) (c : Counters) wher
     unfolding run_counters
     counters-left = sym (leaves-done (counted s samples c) c e)
 
-  module _ {r : Refusal} {i : ℕ} (e : run_answer s xs ys samples (length before) c ≡ Refused r i) where
+  module _ {f : Fault} (e : run_answer s xs ys samples (length before) c ≡ Err f) where
     pub outputs-kept : before ≡ run_outputs s xs ys samples c before
     unfolding run_outputs
     outputs-kept = sym (leaves-before (map (sample_answer s xs ys) samples) before e)
