@@ -2,11 +2,12 @@
 #![tactic(auto)]
 
 mod measure;
-mod owners;
 mod rules;
+pub mod valid;
 
-ghost use Rattle.std.specs.Prelude.{◌≡◌};
+ghost use Rattle.std.specs.Prelude.{◌≡◌, IfOk};
 ghost use Rattle.refusal.specs.Checks.{in_order};
+ghost use Rattle.refusal.specs.Codes.{answer_of};
 ghost use Rattle.layout.specs.Boxes.{span_inside};
 ghost use Rattle.layout.specs.Rules.{layout_checks, box_checks, admit_checks};
 ghost use Rattle.layout.specs.Calls.{clear_box_answer, extent_quantity};
@@ -14,6 +15,7 @@ ghost use Rattle.layout.specs.Whose.{whose_answer};
 
 use layout::{ByteOwner, CubeLayout, ElementBox};
 use refusal::{Answer, Fault, Quantity, Refusal};
+use valid::ValidLayout;
 
 // `count` numbers from `first` on, at least one, all below `size`.
 pub fn span_inside(first: u32, count: u32, size: u32) -> bool
@@ -44,20 +46,27 @@ pub fn check(layout: CubeLayout) -> Answer
     Ok(())
 }
 
+// The layout, checked. Checks 1 to 4.
+pub fn checked(layout: CubeLayout) -> Result<ValidLayout, Fault>
+    ensures answered { answer_of result ≡ in_order (layout_checks layout) }
+    ensures same { IfOk result (λ c. c.layout ≡ layout) }
+{
+    check(layout)?;
+    Ok(ValidLayout { layout })
+}
+
 // Bytes from the start to the end of the last atom.
 pub fn extent(layout: CubeLayout) -> Quantity
     ensures { result ≡ extent_quantity layout }
 {
-    check(layout)?;
-    Ok(measure::extent_bytes(layout))
+    Ok(checked(layout)?.extent())
 }
 
 // Whose the byte at a position is. Checks 1 to 4.
 pub fn whose(layout: CubeLayout, position: u64) -> Result<ByteOwner, Fault>
     ensures { result ≡ whose_answer layout position }
 {
-    check(layout)?;
-    Ok(owners::byte_owner(layout, position))
+    Ok(checked(layout)?.byte_owner(position))
 }
 
 // Checks 1 to 4, 9.
@@ -76,7 +85,8 @@ pub fn check_room(layout: CubeLayout, b: ElementBox, len: usize) -> Answer
     ensures { result ≡ clear_box_answer layout b len }
 {
     check_box(layout, b)?;
-    let end = measure::end(layout);
+    let valid = ValidLayout { layout };
+    let end = valid.end();
     if (len as u64) < end {
         return Err(Fault(Refusal::BufferLength, 0));
     }
@@ -88,10 +98,11 @@ pub fn admit(layout: CubeLayout, b: ElementBox, given: usize, len: usize) -> Ans
     ensures { result ≡ in_order (admit_checks layout b given len) }
 {
     check_box(layout, b)?;
+    let valid = ValidLayout { layout };
     if given as u64 != measure::box_count(b) {
         return Err(Fault(Refusal::ElementCount, 0));
     }
-    if (len as u64) < measure::end(layout) {
+    if (len as u64) < valid.end() {
         return Err(Fault(Refusal::BufferLength, 0));
     }
     Ok(())
