@@ -7,17 +7,18 @@ use Prim.Native.Nat.{ℕ, ◌^◌, ◌<◌}
 use mathlib.Core.Path.{◌≡◌}
 use mathlib.Core.List.{List}
 use lib.IntN.{ℤ}
+use Rattle.std.specs.Prelude.{Ok}
+use Rattle.refusal.specs.Codes.{answer_of}
 use Rattle.layout.specs.declared.CubeLayout.{CubeLayout}
 use Rattle.layout.specs.Calls.{pack_answer}
 use Rattle.walk.specs.declared.Walk.{Walk}
-use Rattle.walk.specs.declared.Started.TheVariants.{Walking}
-use Rattle.walk.specs.Walks.{walk_start, started_answer}
+use Rattle.walk.specs.Walks.{walk_start}
 use Rattle.walk.specs.Scans.{WholeWalk}
 use Rattle.walk.proofs.CallLaws as call
 
 module _ (q : CubeLayout) (raw : List ℤ) (len : ℕ) where
-  pub same_answer : started_answer (walk_start q raw len) ≡ pack_answer q raw len
+  pub same_answer : answer_of (walk_start q raw len) ≡ pack_answer q raw len
   same_answer = call.start-answer q raw len
 
-  pub whole-walk : len < 2 ^ 64 → (walk : Walk) → walk_start q raw len ≡ Walking walk → WholeWalk q raw len walk
+  pub whole-walk : len < 2 ^ 64 → (walk : Walk) → walk_start q raw len ≡ Ok walk → WholeWalk q raw len walk
   whole-walk = call.whole q raw len

@@ -5,9 +5,10 @@ use mathlib.Core.Path.{◌≡◌, refl}
 use mathlib.Core.List.{List, [], ◌∷◌, map}
 use lib.IntN.{ℤ, pos, negsuc, ◌-ℤ◌}
 use lib.ListN.{get_or, replicate}
+use Rattle.std.specs.Prelude.{Ok, Err, Option, Some, None}
 use Rattle.refusal.specs.declared.Refusal.TheVariants.{Int8Range, Fp16Nan}
-use Rattle.refusal.specs.Codes.{answer_code}
-use Rattle.refusal.specs.Checks.{require_at, in_order, result}
+use Rattle.refusal.specs.Codes.{answer_code, answer_of}
+use Rattle.refusal.specs.Checks.{refused_at, require_at, in_order, given as given_where}
 use Rattle.refusal.specs.Sizes.{size_valid}
 use Rattle.elements.specs.Bytes.{element_bytes, byte_of}
 use Rattle.elements.specs.Lists.{remade_from, remade, tabulate_from, tabulate}
@@ -17,10 +18,7 @@ use Rattle.layout.specs.Geometry.{layout_of, element_count, surfaces, cube_exten
 use Rattle.layout.specs.Rules.{sizes_valid, whole_atoms, strides_valid, layout_checks, storage_checks, cube_checks}
 use Rattle.layout.specs.Calls.{pack_answer}
 use Rattle.walk.specs.declared.Walk.{Walk}
-use Rattle.walk.specs.declared.Started.TheVariants.{Walking, Refused}
-use Rattle.walk.specs.declared.NextAtom.{NextAtom}
-use Rattle.walk.specs.declared.NextAtom.TheVariants.{At, NoneLeft}
-use Rattle.walk.specs.Walks.{atom_elements, first_walk, walk_start, started_answer, stride_of, moved, atom_left, atom_byte, atom_bytes, walk_step}
+use Rattle.walk.specs.Walks.{atom_elements, first_walk, walk_start, stride_of, moved, atom_left, atom_byte, atom_bytes, walk_step}
 use Rattle.walk.specs.Scans.{walk_after, step_told, written_at, steps_written}
 
 -- 2 columns, 2 rows, 33 channels of int8; 64 bytes of atoms in lines of 96, 160 bytes of lines in surfaces of 192, from byte 32 on
@@ -32,7 +30,7 @@ abbrev raw : List ℤ
 raw = tabulate 132 (λ (i : ℕ). pos i -ℤ pos 64)
 
 -- what step n tells
-abbrev atom : ℕ → NextAtom
+abbrev atom : ℕ → Option ℕ
 atom n = (step_told n (first_walk cube) raw).atom
 
 abbrev bytes : ℕ → List ℕ
@@ -50,7 +48,7 @@ abbrev wrong : List CubeLayout
 wrong = layout_of 0 2 40 3 128 256 0 ∷ layout_of 3 2 40 3 0 256 0 ∷ layout_of 3 2 40 0 0 256 16 ∷ layout_of 3 2 40 0 128 256 16 ∷ layout_of 3 2 40 0 128 256 0 ∷ []
 
 abbrev refused : CubeLayout → List ℤ → ℕ → ℕ
-refused q xs len = answer_code (started_answer (walk_start q xs len))
+refused q xs len = answer_code (answer_of (walk_start q xs len))
 
 -- a walk made by hand
 abbrev hand : (position index columns rows channels precision : ℕ) → Walk
@@ -71,13 +69,13 @@ hand position index columns rows channels precision =
     }
 
 -- where a step of it gives an atom
-abbrev given : Walk → NextAtom
+abbrev given : Walk → Option ℕ
 given w = (walk_step w []).atom
 
 pub record Computed : Type 0 where
   -- the start: strides of 96 − 32 and 192 − 96 − 32 bytes, and of 31·4 + 1 elements
   pub starts : walk_start cube raw 384
-      ≡ Walking (record {
+      ≡ Ok (record {
         position = 32;
         index = 0;
         columns = 2;
@@ -93,7 +91,7 @@ pub record Computed : Type 0 where
       })
   -- eight atoms, then none is left
   pub positions : map atom (0 ∷ 1 ∷ 2 ∷ 3 ∷ 4 ∷ 5 ∷ 6 ∷ 7 ∷ 8 ∷ 9 ∷ [])
-      ≡ At 32 ∷ At 64 ∷ At 128 ∷ At 160 ∷ At 224 ∷ At 256 ∷ At 320 ∷ At 352 ∷ NoneLeft ∷ NoneLeft ∷ []
+      ≡ Some 32 ∷ Some 64 ∷ Some 128 ∷ Some 160 ∷ Some 224 ∷ Some 256 ∷ Some 320 ∷ Some 352 ∷ None ∷ None ∷ []
   -- 32 channels at row 0, column 0: every fourth element, from element 0 on
   pub first_bytes : bytes 0
       ≡ 192 ∷ 196 ∷ 200 ∷ 204 ∷ 208 ∷ 212 ∷ 216 ∷ 220 ∷ 224 ∷ 228 ∷ 232 ∷ 236 ∷ 240 ∷ 244 ∷ 248 ∷ 252 ∷ 0 ∷ 4 ∷ 8 ∷ 12 ∷ 16 ∷ 20 ∷ 24 ∷ 28 ∷ 32 ∷ 36 ∷ 40 ∷ 44 ∷ 48 ∷ 52 ∷ 56 ∷ 60 ∷ []
@@ -112,28 +110,28 @@ pub record Computed : Type 0 where
   -- refused as packing is: two at once, also 4 and 6, 6 and 5, 5 and 7; 7 alone, with its index; a length of the start and the extent is taken
   pub double : map (λ (q : CubeLayout). refused q [] 0) wrong ≡ 1 ∷ 2 ∷ 3 ∷ 4 ∷ 6 ∷ []
   pub room_first : refused (single 0 0) (pos 200 ∷ []) 31 ≡ 5
-  pub value : walk_start (layout_of 2 1 1 0 64 64 0) (pos 1 ∷ pos 200 ∷ []) 64 ≡ Refused Int8Range 1
+  pub value : walk_start (layout_of 2 1 1 0 64 64 0) (pos 1 ∷ pos 200 ∷ []) 64 ≡ Err (refused_at 1 Int8Range)
   pub short : refused cube raw 383 ≡ 5
   -- fp16: 5 and 26; 26 alone, with its index; infinity is taken
   pub nan_room_first : refused (single 2 0) (negsuc 0 ∷ []) 31 ≡ 5
-  pub nan : walk_start (layout_of 2 1 1 2 64 64 0) (pos 31744 ∷ negsuc 0 ∷ []) 64 ≡ Refused Fp16Nan 1
-  pub infinity : walk_start (single 2 0) (pos 31744 ∷ []) 32 ≡ Walking (first_walk (single 2 0))
+  pub nan : walk_start (layout_of 2 1 1 2 64 64 0) (pos 31744 ∷ negsuc 0 ∷ []) 64 ≡ Err (refused_at 1 Fp16Nan)
+  pub infinity : walk_start (single 2 0) (pos 31744 ∷ []) 32 ≡ Ok (first_walk (single 2 0))
   -- by hand: no channels; the next position just fits 64 bits, and just not; so the next index; the last atom asks no sum
-  pub no_channels : given (hand 32 0 2 2 0 0) ≡ NoneLeft
-  pub position_fits : given (hand 18446744073709551583 0 2 2 9 0) ≡ At 18446744073709551583
-  pub position_past : given (hand 18446744073709551584 0 2 2 9 0) ≡ NoneLeft
-  pub index_fits : given (hand 32 18446744073709551614 2 2 9 0) ≡ At 32
-  pub index_past : given (hand 32 18446744073709551615 2 2 9 0) ≡ NoneLeft
-  pub last_fits : given (hand 18446744073709551615 18446744073709551615 1 1 32 0) ≡ At 18446744073709551615
+  pub no_channels : given (hand 32 0 2 2 0 0) ≡ None
+  pub position_fits : given (hand 18446744073709551583 0 2 2 9 0) ≡ Some 18446744073709551583
+  pub position_past : given (hand 18446744073709551584 0 2 2 9 0) ≡ None
+  pub index_fits : given (hand 32 18446744073709551614 2 2 9 0) ≡ Some 32
+  pub index_past : given (hand 32 18446744073709551615 2 2 9 0) ≡ None
+  pub last_fits : given (hand 18446744073709551615 18446744073709551615 1 1 32 0) ≡ Some 18446744073709551615
   -- one channel more is of a next surface
-  pub next_past : given (hand 18446744073709551615 18446744073709551615 1 1 33 0) ≡ NoneLeft
+  pub next_past : given (hand 18446744073709551615 18446744073709551615 1 1 33 0) ≡ None
   -- missing elements are 0; any precision but 0 has two bytes; columns of 0 count as the last one
   pub missing : (walk_step (hand 32 0 2 2 3 0) (pos 5 ∷ pos 6 ∷ pos 7 ∷ [])).bytes ≡ 5 ∷ 7 ∷ replicate 30 0
   pub unknown : (walk_step (hand 32 0 2 2 3 7) (pos 5 ∷ pos 6 ∷ pos 7 ∷ [])).bytes ≡ 5 ∷ 0 ∷ 7 ∷ 0 ∷ replicate 28 0
   pub none_columns : (walk_step (hand 32 0 0 2 3 0) []).walk.position ≡ 96
 
 pub computed : Computed
-unfolding require_at in_order result size_valid element_bytes byte_of remade_from remade tabulate_from tabulate is_nan value_check value_checks_from value_checks element_count surfaces cube_extent sizes_valid whole_atoms strides_valid layout_checks storage_checks cube_checks pack_answer atom_elements first_walk walk_start stride_of moved atom_left atom_byte atom_bytes walk_step walk_after step_told written_at steps_written
+unfolding require_at in_order given_where size_valid element_bytes byte_of remade_from remade tabulate_from tabulate is_nan value_check value_checks_from value_checks element_count surfaces cube_extent sizes_valid whole_atoms strides_valid layout_checks storage_checks cube_checks pack_answer atom_elements first_walk walk_start stride_of moved atom_left atom_byte atom_bytes walk_step walk_after step_told written_at steps_written
 computed =
     record {
       starts = refl;

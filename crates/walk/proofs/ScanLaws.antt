@@ -12,6 +12,7 @@ use mathlib.Core.Path.{◌≡◌, sym, ap, ◌∙◌}
 use mathlib.Core.List.{List}
 use lib.Arith.{digits_lt}
 use lib.IntN.{ℤ}
+use Rattle.std.specs.Prelude.{Some}
 use Rattle.elements.proofs.TabulateLaws.{tabulate-ext}
 use Rattle.layout.specs.declared.CubeLayout.{CubeLayout}
 use Rattle.layout.specs.declared.ElementBox.{ElementBox}
@@ -24,7 +25,6 @@ use Rattle.layout.proofs.BoxLaws.{at_in, box_index-at}
 use Rattle.layout.proofs.Extents.{atom-within, surfaces-pos}
 use Rattle.walk.specs.declared.Walk.{Walk}
 use Rattle.walk.specs.declared.Step.{Step}
-use Rattle.walk.specs.declared.NextAtom.TheVariants.{At}
 use Rattle.walk.specs.Walks.{atom_bytes, first_walk, stride_of, moved, walk_step}
 use Rattle.walk.specs.Scans.{told_by, walk_after, step_told, InScan, atom_count, scan_index, ScanAt, scan_position, atom_told, none_told}
 use Rattle.walk.proofs.AtomLaws.{atom_byte-packed}
@@ -94,7 +94,7 @@ module _ (q : CubeLayout) (ok : Valid q) (raw : List ℤ) (room : q.start + cube
   unfolding atom_told atom_bytes
   gives s h w i after g =
       ap told_by (step-atom (walk_of q s h w) raw after g)
-      ∙ ap (λ (l : List ℕ). record { atom = At (scan_position q s h w); bytes = l }) (tabulate-ext 0 32 _ _ (λ k lt. atom_byte-packed q s raw h w k))
+      ∙ ap (λ (l : List ℕ). record { atom = Some (scan_position q s h w); bytes = l }) (tabulate-ext 0 32 _ _ (λ k lt. atom_byte-packed q s raw h w k))
 
   -- the walk before the first atom
   abbrev first : Walk

@@ -14,13 +14,13 @@ use mathlib.Core.List.{List}
 use lib.IntN.{ℤ}
 use lib.ListN.{replicate}
 use borrow.Author.Tests.{lt-ltb, le-ltb}
+use Rattle.std.specs.Prelude.{Some, None}
 use Rattle.general.proofs.TestLaws.{and_both}
 use Rattle.elements.proofs.ByteLaws.{element_bytes-pos}
 use Rattle.layout.specs.declared.CubeLayout.{CubeLayout}
 use Rattle.layout.specs.Geometry.{size_of, surfaces, raw_index}
 use Rattle.layout.proofs.Valid.{Valid}
 use Rattle.walk.specs.declared.Walk.{Walk}
-use Rattle.walk.specs.declared.NextAtom.TheVariants.{At, NoneLeft}
 use Rattle.walk.specs.Walks.{atom_elements, first_walk, stride_of, moved, atom_left, atom_bytes, walk_step}
 use Rattle.walk.specs.Scans.{scan_position, InScan}
 use Rattle.walk.proofs.SizeLaws.{atom_elements-bytes, atom_elements-pos}
@@ -42,11 +42,11 @@ module _ (w : Walk) (raw : List ℤ) where
       let i = subst⁻¹ (λ (x : Walk). x.index < 2 ^ 64) g.moves g.index_lt in
       and_both (and_both (lt-ltb 0 w.channels g.some) (lt-ltb (w.position + (stride_of w).bytes) (2 ^ 64) at)) (lt-ltb (w.index + (stride_of w).elements) (2 ^ 64) i)
 
-  pub step-atom : (after : Walk) → Goes w after → walk_step w raw ≡ record { atom = At w.position; bytes = atom_bytes w raw; walk = after }
+  pub step-atom : (after : Walk) → Goes w after → walk_step w raw ≡ record { atom = Some w.position; bytes = atom_bytes w raw; walk = after }
   unfolding walk_step
   step-atom after g = rw (left after g, g.moves)
 
-  pub step-none : w.channels ≡ 0 → walk_step w raw ≡ record { atom = NoneLeft; bytes = replicate 32 0; walk = w }
+  pub step-none : w.channels ≡ 0 → walk_step w raw ≡ record { atom = None; bytes = replicate 32 0; walk = w }
   unfolding walk_step atom_left
   step-none e = rw (le-ltb 0 w.channels (omega (arith, e)))
 

@@ -15,6 +15,7 @@ use lib.IntN.{ℤ}
 use lib.ListN.{length, get_or, get_or-eq_default}
 use lib.Seq.{ext_get_or}
 use borrow.Author.Tests.{lt-ltb, le-ltb, le-leb, lt-leb}
+use Rattle.std.specs.Prelude.{Some}
 use Rattle.general.proofs.TestLaws.{and_both}
 use Rattle.general.proofs.Toward.{Toward, toward-refl, toward-trans, reached-kept}
 use Rattle.elements.specs.Lists.{tabulate}
@@ -29,7 +30,6 @@ use Rattle.layout.proofs.Atoms.{atom-owner, atom-of}
 use Rattle.layout.proofs.ContentLaws.{packed-length, packed-at, packed-outside}
 use Rattle.layout.proofs.Extents.{atom-within}
 use Rattle.walk.specs.declared.Walk.{Walk}
-use Rattle.walk.specs.declared.NextAtom.TheVariants.{At}
 use Rattle.walk.specs.Walks.{first_walk}
 use Rattle.walk.specs.Scans.{Told, step_told, InScan, atom_count, scan_index, scan_position, atom_told, written_at, steps_written}
 use Rattle.walk.proofs.ScanLaws.{scan_index-lt, scan-at, told-atom, told_none}
@@ -39,11 +39,11 @@ module _ (position : ℕ) (bytes buf : List ℕ) where
   abbrev put : ℕ → ℕ → ℕ
   put p old = cond (leb position p && ltb p (position + 32)) (get_or bytes (p - position) 0) old
 
-  written-length : length (written_at (At position) bytes buf) ≡ length buf
+  written-length : length (written_at (Some position) bytes buf) ≡ length buf
   unfolding written_at
   written-length = length-remade put buf
 
-  written-there : (k : ℕ) → k < 32 → position + k < length buf → get_or (written_at (At position) bytes buf) (position + k) 0 ≡ get_or bytes k 0
+  written-there : (k : ℕ) → k < 32 → position + k < length buf → get_or (written_at (Some position) bytes buf) (position + k) 0 ≡ get_or bytes k 0
   unfolding written_at
   written-there k lt room =
       let p = position + k in
@@ -52,7 +52,7 @@ module _ (position : ℕ) (bytes buf : List ℕ) where
       get_or-remade put buf p 0 room ∙ ap (λ (t : Bool). cond t (get_or bytes (p - position) 0) (get_or buf p 0)) inside ∙ ap (λ (n : ℕ). get_or bytes n 0) back
 
   -- a byte that is none of the 32, or past the buffer's end
-  kept_by : (p : ℕ) → (leb position p && ltb p (position + 32)) ≡ false → get_or (written_at (At position) bytes buf) p 0 ≡ get_or buf p 0
+  kept_by : (p : ℕ) → (leb position p && ltb p (position + 32)) ≡ false → get_or (written_at (Some position) bytes buf) p 0 ≡ get_or buf p 0
   unfolding written_at
   kept_by p e =
       elim (dec_lt p (length buf)) [
@@ -60,10 +60,10 @@ module _ (position : ℕ) (bytes buf : List ℕ) where
         | no f ↦ past p (omega arith)
       ]
     where
-      past : (p : ℕ) → length buf ≤ p → get_or (written_at (At position) bytes buf) p 0 ≡ get_or buf p 0
-      past p le = get_or-eq_default (written_at (At position) bytes buf) 0 (omega (arith, written-length)) ∙ sym (get_or-eq_default buf 0 le)
+      past : (p : ℕ) → length buf ≤ p → get_or (written_at (Some position) bytes buf) p 0 ≡ get_or buf p 0
+      past p le = get_or-eq_default (written_at (Some position) bytes buf) 0 (omega (arith, written-length)) ∙ sym (get_or-eq_default buf 0 le)
 
-  written-kept : (p : ℕ) → (p < position) ⊎ (position + 32 ≤ p) → get_or (written_at (At position) bytes buf) p 0 ≡ get_or buf p 0
+  written-kept : (p : ℕ) → (p < position) ⊎ (position + 32 ≤ p) → get_or (written_at (Some position) bytes buf) p 0 ≡ get_or buf p 0
   written-kept p other =
       kept_by p
       (⊎_elim

@@ -1,6 +1,6 @@
 -- The words of the theorem about a whole walk (proofs/Claims.antt): steps one after another, an atom by the paper's formula (scope paper, "Cells and
 -- cubes"), and atoms written as they are told. Assumes nothing.
-use Rattle.std.specs.Prelude.{ℕ, zero, suc, ◌+◌, ◌-◌, ◌*◌, ◌≤◌, ◌<◌, ◌≡◌, cond, ◌&&◌, List, leb, ltb, ℤ, length, get_or, replicate}
+use Rattle.std.specs.Prelude.{ℕ, zero, suc, ◌+◌, ◌-◌, ◌*◌, ◌≤◌, ◌<◌, ◌≡◌, cond, ◌&&◌, List, leb, ltb, ℤ, length, get_or, replicate, Option, Some, None}
 use Rattle.elements.specs.Lists.{remade, tabulate}
 use Rattle.layout.specs.declared.CubeLayout.{CubeLayout}
 use Rattle.layout.specs.Geometry.{surfaces}
@@ -9,15 +9,13 @@ use Rattle.layout.specs.Contents.{packed_byte}
 use Rattle.layout.specs.Calls.{pack_buffer}
 use Rattle.walk.specs.declared.Walk.{Walk}
 use Rattle.walk.specs.declared.Step.{Step}
-use Rattle.walk.specs.declared.NextAtom.{NextAtom}
-use Rattle.walk.specs.declared.NextAtom.TheVariants.{At, NoneLeft}
 use Rattle.walk.specs.Walks.{walk_step}
 
 -- ---- steps one after another
 
 -- what a step tells: a position, or that none is left, and the bytes
 pub record Told : Type 0 where
-  pub atom : NextAtom
+  pub atom : Option ℕ
   pub bytes : List ℕ
 
 abbrev pub told_by : Step → Told
@@ -62,19 +60,19 @@ scan_position q s h w = q.start + s * q.surface + h * q.line + 32 * w
 
 -- that atom told: its position, and the bytes that packing writes there
 unfoldable pub atom_told : CubeLayout → List ℤ → ℕ → ℕ → ℕ → Told
-atom_told q raw s h w = record { atom = At (scan_position q s h w); bytes = tabulate 32 (λ (k : ℕ). packed_byte q raw (atom_owner q s h w k) 0) }
+atom_told q raw s h w = record { atom = Some (scan_position q s h w); bytes = tabulate 32 (λ (k : ℕ). packed_byte q raw (atom_owner q s h w k) 0) }
 
 -- that none is left
 abbrev pub none_told : Told
-none_told = record { atom = NoneLeft; bytes = replicate 32 0 }
+none_told = record { atom = None; bytes = replicate 32 0 }
 
 -- ---- atoms written
 
 -- the 32 bytes of an atom written at its position, every other byte as it was; where none is left all bytes as they were
-unfoldable pub written_at : NextAtom → List ℕ → List ℕ → List ℕ
-written_at (At position) bytes before =
+unfoldable pub written_at : Option ℕ → List ℕ → List ℕ → List ℕ
+written_at (Some position) bytes before =
     remade (λ (p old : ℕ). cond (leb position p && ltb p (position + 32)) (get_or bytes (p - position) 0) old) before
-written_at NoneLeft bytes before = before
+written_at None bytes before = before
 
 -- the atoms that n steps tell, written one after another
 unfoldable pub steps_written : ℕ → Walk → List ℤ → List ℕ → List ℕ
@@ -92,6 +90,6 @@ pub record WholeWalk (q : CubeLayout) (raw : List ℤ) (len : ℕ) (walk : Walk)
   -- every later step that none is left,
   pub none_left : (n : ℕ) → atom_count q ≤ n → step_told n walk raw ≡ none_told
   -- and no other step tells an atom's position;
-  pub once : (n s h w : ℕ) → InScan q s h w → (step_told n walk raw).atom ≡ At (scan_position q s h w) → n ≡ scan_index q s h w
+  pub once : (n s h w : ℕ) → InScan q s h w → (step_told n walk raw).atom ≡ Some (scan_position q s h w) → n ≡ scan_index q s h w
   -- written as they are told, they leave what packing leaves
   pub packs : (before : List ℕ) → length before ≡ len → (n : ℕ) → atom_count q ≤ n → steps_written n walk raw before ≡ pack_buffer q raw before

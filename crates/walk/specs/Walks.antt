@@ -1,10 +1,9 @@
 -- The walk over the atoms of a cube, one at a time (change request K6): its start, and a step of any walk over any elements. Only sums lead from one
 -- atom to the next. That the steps of a started walk give every atom of the paper's formula once, and what packing writes, is a theorem
 -- (proofs/Claims.antt). Assumes nothing.
-use Rattle.std.specs.Prelude.{ℕ, ◌+◌, ◌-◌, ◌*◌, ◌/◌, ◌%◌, ◌^◌, Bool, cond, ◌&&◌, List, ltb, ℤ, pos, get_or, replicate}
-use Rattle.refusal.specs.declared.Answer.{Answer}
-use Rattle.refusal.specs.declared.Answer.TheVariants.{Accepted, Refused as Denied}
-use Rattle.refusal.specs.Checks.{result}
+use Rattle.std.specs.Prelude.{ℕ, ◌+◌, ◌-◌, ◌*◌, ◌/◌, ◌%◌, ◌^◌, Bool, cond, ◌&&◌, List, ltb, ℤ, pos, get_or, replicate, Result, Some, None}
+use Rattle.refusal.specs.declared.Fault.{Fault}
+use Rattle.refusal.specs.Checks.{given}
 use Rattle.elements.specs.Bytes.{element_bytes, byte_of}
 use Rattle.elements.specs.Lists.{tabulate}
 use Rattle.layout.specs.declared.CubeLayout.{CubeLayout}
@@ -12,9 +11,6 @@ use Rattle.layout.specs.Calls.{pack_answer}
 use Rattle.walk.specs.declared.Walk.{Walk}
 use Rattle.walk.specs.declared.Stride.{Stride}
 use Rattle.walk.specs.declared.Step.{Step}
-use Rattle.walk.specs.declared.Started.{Started}
-use Rattle.walk.specs.declared.Started.TheVariants.{Walking, Refused}
-use Rattle.walk.specs.declared.NextAtom.TheVariants.{At, NoneLeft}
 
 -- elements of an atom, by the precision code: 32 of one byte, 16 of two
 unfoldable pub atom_elements : ℕ → ℕ
@@ -41,13 +37,8 @@ first_walk q =
     }
 
 -- start: what packing answers over a buffer of `len` bytes, 1, 2, 3, 4, 6, 5, then 7 or 26
-unfoldable pub walk_start : CubeLayout → List ℤ → ℕ → Started
-walk_start q raw len = result Walking Refused (pack_answer q raw len) (first_walk q)
-
--- its answer, for the paper's number: accepted where there is a walk
-abbrev pub started_answer : Started → Answer
-started_answer (Walking w) = Accepted
-started_answer (Refused r at) = Denied r at
+unfoldable pub walk_start : CubeLayout → List ℤ → ℕ → Result Walk Fault
+walk_start q raw len = given (pack_answer q raw len) (first_walk q)
 
 -- ---- a step, of any walk over any elements
 
@@ -99,5 +90,5 @@ atom_bytes w raw = tabulate 32 (atom_byte (element_bytes w.precision) w.channels
 unfoldable pub walk_step : Walk → List ℤ → Step
 walk_step w raw =
     cond (atom_left w)
-    (record { atom = At w.position; bytes = atom_bytes w raw; walk = moved w (stride_of w) })
-    (record { atom = NoneLeft; bytes = replicate 32 0; walk = w })
+    (record { atom = Some w.position; bytes = atom_bytes w raw; walk = moved w (stride_of w) })
+    (record { atom = None; bytes = replicate 32 0; walk = w })

@@ -2,8 +2,6 @@
 // `walk_calls`.
 #![tactic(auto)]
 
-use refusal::Refusal;
-
 // Where a walk stands, before its next atom. `start` of `walk_calls` gives the first one; any numbers are a walk.
 #[derive(Clone, Copy)]
 pub struct Walk {
@@ -36,24 +34,11 @@ pub struct Stride {
     pub elements: u64,
 }
 
-// The first walk, or refused with the index at fault.
-#[derive(Drop)]
-pub enum Started {
-    Walking(Walk),
-    Refused(Refusal, usize),
-}
-
-// The byte position of the atom that a step gives, or that none is left.
-#[derive(Drop)]
-pub enum NextAtom {
-    At(u64),
-    NoneLeft,
-}
-
-// What a step gives: the atom's position and bytes, and the walk behind it. Where none is left: bytes of 0, and the walk as it came.
-#[derive(Drop)]
+// What a step gives: the atom's byte position, or that none is left, the atom's bytes, and the walk behind it. Where none is left: bytes of 0, and the
+// walk as it came.
+#[derive(Clone, Copy)]
 pub struct Step {
-    pub atom: NextAtom,
+    pub atom: Option<u64>,
     pub bytes: [u8; 32],
     pub walk: Walk,
 }
