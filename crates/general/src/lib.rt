@@ -3,9 +3,9 @@
 
 ghost use Rattle.std.specs.Prelude.{◌≡◌, min};
 
-// The lesser of two numbers.
+// The lesser of two numbers. Kept beside std's `min`, which it calls: the must-fail edit the_greater stands on it.
 pub fn least(a: u32, b: u32) -> u32
     ensures { result ≡ min a b }
 {
-    if b < a { b } else { a }
+    a.min(b)
 }
