@@ -9,16 +9,16 @@ use mathlib.Core.List.{List, [], ◌∷◌}
 use lib.Dec.{leb, eqb}
 use lib.IntN.{ℤ, pos, negsuc, ◌+ℤ◌, ◌-ℤ◌, +ℤ_idl}
 use lib.ListN.{length}
+use Rattle.std.specs.Prelude.{Option}
 use borrow.Author.Tests.{le-leb, eq-eqb}
 use Rattle.refusal.specs.declared.Refusal.TheVariants.{TableLength, XSelect, XEnd, YSelect, YEnd, Shift, Counters as CounterLimit, OutputLength}
-use Rattle.refusal.specs.declared.Answer.TheVariants.{Accepted}
-use Rattle.refusal.specs.Checks.{require, in_order}
+use Rattle.refusal.specs.Checks.{require, in_order, Accepted}
 use Rattle.refusal.proofs.CheckLaws.{in_order-nil, in_order-next}
 use Rattle.lut.specs.declared.Counters.{Counters}
+use Rattle.lut.specs.declared.Table.{Table}
 use Rattle.lut.specs.Numbers.{between, scaled}
 use Rattle.lut.specs.Rules.{mode_valid, same_z, end_valid, shift_valid, counter_sum, table_checks, lut_checks}
 use Rattle.lut.specs.Calls.{run_answer}
-use Rattle.camera.specs.declared.Choice.{Choice}
 use Rattle.camera.specs.Curve.{curve_x, curve_y, x_table, y_table}
 use Rattle.camera.specs.Ready.{flat, ready_settings}
 use Rattle.camera.proofs.CurveLaws.{entries-length}
@@ -40,7 +40,7 @@ same_self n = rw (le-leb n n (le_refl n))
 same_end : (n : ℕ) → same_z (pos n) (pos 0 +ℤ pos n) ≡ true
 same_end n = ap (same_z (pos n)) (+ℤ_idl (pos n)) ∙ same_self n
 
-module _ (s : ℕ) (low : 2 ≤ s) (high : s ≤ 22) (priority overflow underflow : Choice) where
+module _ (s : ℕ) (low : 2 ≤ s) (high : s ≤ 22) (priority overflow underflow : Option Table) where
   mode-valid : mode_valid (ready_settings (pos s) priority overflow underflow).x.mode ≡ true
   unfolding mode_valid ready_settings
   mode-valid = ap (between (negsuc 5) (pos 25)) (less_two s low) ∙ wide-between 5 25 (s - 2) (omega arith)

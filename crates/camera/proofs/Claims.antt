@@ -6,15 +6,14 @@ use mathlib.Core.List.{List, [], ◌∷◌}
 use lib.Dec.{leb, eqb}
 use lib.IntN.{ℤ, pos, nat_abs}
 use lib.ListN.{length, get_or}
+use Rattle.std.specs.Prelude.{Option, Ok, Err}
 use Rattle.refusal.specs.declared.Refusal.TheVariants.{OutputLength, YSelect, Counters as CounterLimit}
-use Rattle.refusal.specs.declared.Answer.TheVariants.{Accepted}
-use Rattle.refusal.specs.Checks.{require, in_order}
+use Rattle.refusal.specs.Checks.{require, in_order, Accepted, refused_at}
 use Rattle.lut.specs.declared.Counters.{Counters}
+use Rattle.lut.specs.declared.Table.{Table}
 use Rattle.lut.specs.Numbers.{between}
 use Rattle.lut.specs.Rules.{counter_sum}
 use Rattle.lut.specs.Calls.{run_answer}
-use Rattle.camera.specs.declared.Choice.{Choice}
-use Rattle.camera.specs.declared.Ready.TheVariants.{Setting, Refused as NotGiven}
 use Rattle.camera.specs.Curve.{curve_x, curve_y, x_table, y_table}
 use Rattle.camera.specs.Ready.{ready_settings, ready_answer}
 use Rattle.camera.proofs.CurveLaws.{curve-rule, entry-read}
@@ -40,13 +39,13 @@ pub x-at : (j : ℕ) → get_or x_table (min j 64) (pos 0) ≡ curve_x j
 unfolding x_table curve_x
 x-at j = entry-read 64 262144 j refl refl
 
-module _ (priority overflow underflow : Choice) where
+module _ (priority overflow underflow : Option Table) where
   -- a select from 2 to 22 gives its settings
-  pub valid : (s : ℕ) → 2 ≤ s → s ≤ 22 → ready_answer (pos s) priority overflow underflow ≡ Setting (ready_settings (pos s) priority overflow underflow)
+  pub valid : (s : ℕ) → 2 ≤ s → s ≤ 22 → ready_answer (pos s) priority overflow underflow ≡ Ok (ready_settings (pos s) priority overflow underflow)
   valid s low high = sym (answer-setting (pos s) priority overflow underflow (pos-between 2 22 s low high))
 
   -- any other is refused
-  pub refused : (s : ℤ) → between (pos 2) (pos 22) s ≡ false → ready_answer s priority overflow underflow ≡ NotGiven YSelect 0
+  pub refused : (s : ℤ) → between (pos 2) (pos 22) s ≡ false → ready_answer s priority overflow underflow ≡ Err (refused_at 0 YSelect)
   refused s h = sym (answer-refused s priority overflow underflow h)
 
   module _ (s : ℕ) (low : 2 ≤ s) (high : s ≤ 22) (samples : List ℤ) (outputs : ℕ) (c : Counters) where

@@ -4,18 +4,16 @@ use mathlib.Core.Path.{◌≡◌, refl, ◌∙◌}
 use mathlib.Core.List.{[]}
 use lib.Dec.{lit≤}
 use lib.IntN.{pos, negsuc}
+use Rattle.std.specs.Prelude.{None, Some, Ok, Err}
 use Rattle.refusal.specs.declared.Refusal.TheVariants.{YSelect, OutputLength}
-use Rattle.refusal.specs.declared.Answer.TheVariants.{Refused}
-use Rattle.refusal.specs.Checks.{require_at, in_order, result}
+use Rattle.refusal.specs.Checks.{require_at, in_order, given, Refused, refused_at}
 use Rattle.refusal.proofs.CheckLaws.{in_order-stop}
 use Rattle.lut.specs.declared.Table.TheVariants.{X, Y}
 use Rattle.lut.specs.declared.LutSettings.{LutSettings}
 use Rattle.lut.specs.Numbers.{between, scaled}
 use Rattle.lut.specs.Calls.{run_answer}
-use Rattle.camera.specs.declared.Choice.TheVariants.{Unnamed, Named}
-use Rattle.camera.specs.declared.Ready.TheVariants.{Setting, Refused as NotGiven}
 use Rattle.camera.specs.Curve.{root_up_to, root, curve_entry, x_table, y_table}
-use Rattle.camera.specs.Ready.{chosen, flat, ready_settings, ready_checks, ready_answer}
+use Rattle.camera.specs.Ready.{flat, ready_settings, ready_checks, ready_answer}
 use Rattle.camera.proofs.AcceptedLaws.{accepted-but}
 
 -- the greatest whole e with e² ≤ n: a square's own root, and the same below the next square
@@ -31,7 +29,7 @@ entries = (refl, refl)
 -- ---- s = 4, a bit named
 
 abbrev settings : LutSettings
-settings = ready_settings (pos 4) Unnamed (Named Y) Unnamed
+settings = ready_settings (pos 4) None (Some Y) None
 
 -- X in 64 steps of 4, Y in 256 steps of 16
 pub ends : (settings.x.end ≡ pos 256) × (settings.y.end ≡ pos 4096)
@@ -44,21 +42,21 @@ slopes = (refl, refl, refl, refl)
 
 -- a bit left unnamed is X
 pub bits : (settings.priority ≡ X) × (settings.overflow ≡ Y) × (settings.underflow ≡ X)
-unfolding chosen ready_settings
+unfolding ready_settings
 bits = (refl, refl, refl)
 
 -- ---- 14 outside 2 to 22, and nothing else is refused
 
-pub refusals : (ready_answer (negsuc 3) Unnamed Unnamed Unnamed ≡ NotGiven YSelect 0) × (ready_answer (pos 1) Unnamed Unnamed Unnamed ≡ NotGiven YSelect 0)
-    × (ready_answer (pos 23) Unnamed Unnamed Unnamed ≡ NotGiven YSelect 0)
-unfolding require_at in_order result between ready_checks ready_answer
+pub refusals : (ready_answer (negsuc 3) None None None ≡ Err (refused_at 0 YSelect)) × (ready_answer (pos 1) None None None ≡ Err (refused_at 0 YSelect))
+    × (ready_answer (pos 23) None None None ≡ Err (refused_at 0 YSelect))
+unfolding require_at in_order given between ready_checks ready_answer
 refusals = (refl, refl, refl)
 
-pub limits : (ready_answer (pos 2) Unnamed Unnamed Unnamed ≡ Setting (ready_settings (pos 2) Unnamed Unnamed Unnamed))
-    × (ready_answer (pos 22) Unnamed Unnamed Unnamed ≡ Setting (ready_settings (pos 22) Unnamed Unnamed Unnamed))
-unfolding require_at in_order result between ready_checks ready_answer
+pub limits : (ready_answer (pos 2) None None None ≡ Ok (ready_settings (pos 2) None None None))
+    × (ready_answer (pos 22) None None None ≡ Ok (ready_settings (pos 22) None None None))
+unfolding require_at in_order given between ready_checks ready_answer
 limits = (refl, refl)
 
 -- a run on the settings and the two tables: of 18 and 17 at once, 18
 pub order : run_answer settings x_table y_table [] 1 (record { x = 4294967295; y = 1; underflow = 0; overflow = 0; priority = 0 }) ≡ Refused OutputLength 0
-order = accepted-but 4 (lit≤ tt) (lit≤ tt) Unnamed (Named Y) Unnamed [] 1 _ ∙ in_order-stop 0 OutputLength _ refl
+order = accepted-but 4 (lit≤ tt) (lit≤ tt) None (Some Y) None [] 1 _ ∙ in_order-stop 0 OutputLength _ refl

@@ -1,10 +1,8 @@
 -- The ready-made settings as the code makes them, and its tests. Assumes nothing.
---     chosen-unnamed, chosen-named       a priority bit, by the choice
 --     between-pos, pos-between           a select in its range, as a natural number
---     valid-between                      the code's tests of a select
 --     less_two .. select-valid           the select less two; both selects are valid
 --     end_fits, end-value                an end, as the code computes it
---     answer-refused .. answer-setting   the check's two outcomes, and the tests that lead to them
+--     answer-refused, answer-setting     the check's two outcomes
 use Prim.Native.Nat.{ℕ, ◌-◌, ◌*◌, ◌^◌, ◌%◌, ◌≤◌, zero-le}
 use native.Mathlib.Nat.{pow-le-pow_right, mul-le-mul}
 use native.Mathlib.Omega.{arith}
@@ -13,31 +11,20 @@ use mathlib.Core.Bool.{true, false}
 use mathlib.Core.List.{[]}
 use lib.Dec.{lit<}
 use lib.IntN.{ℤ, pos, negsuc, ◌-ℤ◌}
-use lib.Signed.{lt_z, le_z}
+use lib.Signed.{le_z}
 use mir.Syntax.{w32}
 use mir.Val.{SFits, to_z, of_z}
 use mir.Facts.{to_z-of_z, to_z_pos}
 use borrow.Author.Tests.{le-leb}
+use Rattle.std.specs.Prelude.{Option, Ok, Err}
 use Rattle.general.proofs.TestLaws.{and_left, and_right}
-use Rattle.general.proofs.UpDown.{ud-inj, take-ud, le_z-true, lt_z-true, lt_z-false, le-le_z, lt-le_z}
+use Rattle.general.proofs.UpDown.{ud-inj, take-ud, le_z-true}
 use Rattle.refusal.specs.declared.Refusal.TheVariants.{YSelect}
-use Rattle.refusal.proofs.CheckLaws.{in_order-nil, in_order-next, in_order-stop, result-given, result-refused}
+use Rattle.refusal.specs.Checks.{refused_at}
+use Rattle.refusal.proofs.CheckLaws.{in_order-nil, in_order-next, in_order-stop, given-accepted, given-refused}
 use Rattle.lut.specs.declared.Table.{Table}
 use Rattle.lut.specs.Numbers.{between, scaled}
-use Rattle.camera.specs.declared.Choice.{Choice}
-use Rattle.camera.specs.declared.Choice.TheVariants.{Unnamed, Named}
-use Rattle.camera.specs.declared.Ready.TheVariants.{Setting, Refused as NotGiven}
-use Rattle.camera.specs.Ready.{chosen, ready_settings, ready_checks, ready_answer}
-
--- ---- a priority bit
-
-pub chosen-unnamed : (unnamed : Table) {choice : Choice} → choice ≡ Unnamed → unnamed ≡ chosen unnamed choice
-unfolding chosen
-chosen-unnamed unnamed e = rw e
-
-pub chosen-named : (unnamed : Table) {choice : Choice} {table : Table} → choice ≡ Named table → table ≡ chosen unnamed choice
-unfolding chosen
-chosen-named unnamed e = rw e
+use Rattle.camera.specs.Ready.{ready_settings, ready_checks, ready_answer}
 
 -- ---- a select in its range
 
@@ -55,18 +42,6 @@ between-pos a b (negsuc k) e = absurd (omega (arith, le_z-true (pos a) (negsuc k
 pub pos-between : (a b k : ℕ) → a ≤ k → k ≤ b → between (pos a) (pos b) (pos k) ≡ true
 unfolding between
 pos-between a b k h l = rw (le-leb a k h, le-leb k b l)
-
-pub valid-between : (a b z : ℤ) → lt_z z a ≡ false → lt_z b z ≡ false → between a b z ≡ true
-unfolding between
-valid-between a b z h l = rw (le-le_z a z (omega (arith, lt_z-false z a h)), le-le_z z b (omega (arith, lt_z-false b z l)))
-
-below-between : (a b z : ℤ) → lt_z z a ≡ true → between a b z ≡ false
-unfolding between
-below-between a b z h = rw (lt-le_z a z (omega (arith, lt_z-true z a h)))
-
-above-between : (a b z : ℤ) → lt_z z a ≡ false → lt_z b z ≡ true → between a b z ≡ false
-unfolding between
-above-between a b z h l = rw (le-le_z a z (omega (arith, lt_z-false z a h)), lt-le_z z b (omega (arith, lt_z-true b z l)))
 
 -- ---- the select less two
 
@@ -108,17 +83,11 @@ module _ (last k : ℕ) (h : last ≤ 256) (l : k ≤ 22) where
 
 -- ---- the checks
 
-module _ (s : ℤ) (priority overflow underflow : Choice) where
-  pub answer-refused : between (pos 2) (pos 22) s ≡ false → NotGiven YSelect 0 ≡ ready_answer s priority overflow underflow
+module _ (s : ℤ) (priority overflow underflow : Option Table) where
+  pub answer-refused : between (pos 2) (pos 22) s ≡ false → Err (refused_at 0 YSelect) ≡ ready_answer s priority overflow underflow
   unfolding ready_answer ready_checks
-  answer-refused e = sym (result-refused _ _ (ready_settings s priority overflow underflow) (in_order-stop 0 YSelect [] e))
+  answer-refused e = sym (given-refused (ready_settings s priority overflow underflow) (in_order-stop 0 YSelect [] e))
 
-  pub answer-below : lt_z s (pos 2) ≡ true → NotGiven YSelect 0 ≡ ready_answer s priority overflow underflow
-  answer-below h = answer-refused (below-between (pos 2) (pos 22) s h)
-
-  pub answer-above : lt_z s (pos 2) ≡ false → lt_z (pos 22) s ≡ true → NotGiven YSelect 0 ≡ ready_answer s priority overflow underflow
-  answer-above h l = answer-refused (above-between (pos 2) (pos 22) s h l)
-
-  pub answer-setting : between (pos 2) (pos 22) s ≡ true → Setting (ready_settings s priority overflow underflow) ≡ ready_answer s priority overflow underflow
+  pub answer-setting : between (pos 2) (pos 22) s ≡ true → Ok (ready_settings s priority overflow underflow) ≡ ready_answer s priority overflow underflow
   unfolding ready_answer ready_checks
-  answer-setting e = sym (result-given _ _ (ready_settings s priority overflow underflow) (in_order-next 0 YSelect [] e ∙ in_order-nil))
+  answer-setting e = sym (given-accepted (ready_settings s priority overflow underflow) (in_order-next 0 YSelect [] e ∙ in_order-nil))

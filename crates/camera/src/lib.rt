@@ -4,34 +4,10 @@
 
 ghost use Rattle.std.specs.Prelude.{◌≡◌, true, ◌≤◌, pos};
 ghost use Rattle.lut.specs.Numbers.{between, scaled};
-ghost use Rattle.camera.specs.Ready.{chosen, ready_settings, ready_answer};
+ghost use Rattle.camera.specs.Ready.{ready_settings, ready_answer};
 
 use lut::{LutSettings, Slope, Table, XMode, XSettings, YSettings};
-use refusal::Refusal;
-
-// A priority bit: named as a table, or left unnamed.
-#[derive(Clone, Copy)]
-pub enum Choice {
-    Unnamed,
-    Named(Table),
-}
-
-// The ready-made settings, or refused with the index at fault.
-#[derive(Drop)]
-pub enum Ready {
-    Setting(LutSettings),
-    Refused(Refusal, usize),
-}
-
-// The table named, or the given one where it is left unnamed.
-fn chosen(unnamed: Table, choice: Choice) -> Table
-    ensures { result ≡ chosen unnamed choice }
-{
-    match choice {
-        Choice::Unnamed => unnamed,
-        Choice::Named(table) => table,
-    }
-}
+use refusal::{Fault, Refusal};
 
 // The end of a table that starts at 0, by its last entry and its select.
 fn end_of(last: u32, select: i32) -> i32
@@ -42,7 +18,12 @@ fn end_of(last: u32, select: i32) -> i32
 }
 
 // The settings for a select that is valid.
-fn settings(select: i32, priority: Choice, overflow: Choice, underflow: Choice) -> LutSettings
+fn settings(
+    select: i32,
+    priority: Option<Table>,
+    overflow: Option<Table>,
+    underflow: Option<Table>,
+) -> LutSettings
     requires { between (pos 2) (pos 22) select ≡ true }
     ensures { result ≡ ready_settings select priority overflow underflow }
 {
@@ -65,21 +46,23 @@ fn settings(select: i32, priority: Choice, overflow: Choice, underflow: Choice) 
     LutSettings {
         x,
         y,
-        priority: chosen(Table::X, priority),
-        overflow: chosen(Table::X, overflow),
-        underflow: chosen(Table::X, underflow),
+        priority: priority.unwrap_or(Table::X),
+        overflow: overflow.unwrap_or(Table::X),
+        underflow: underflow.unwrap_or(Table::X),
     }
 }
 
-// The settings for the camera curve: Y select `select`, X select two less, no slopes; a bit left unnamed is the X table.
-pub fn ready_made(select: i32, priority: Choice, overflow: Choice, underflow: Choice) -> Ready
+// The settings for the camera curve: Y select `select`, X select two less, no slopes. A priority bit names its table; where it is left unnamed, it is the X table.
+pub fn ready_made(
+    select: i32,
+    priority: Option<Table>,
+    overflow: Option<Table>,
+    underflow: Option<Table>,
+) -> Result<LutSettings, Fault>
     ensures { result ≡ ready_answer select priority overflow underflow }
 {
-    if select < 2 {
-        return Ready::Refused(Refusal::YSelect, 0);
+    if !(2..=22).contains(&select) {
+        return Err(Fault(Refusal::YSelect, 0));
     }
-    if 22 < select {
-        return Ready::Refused(Refusal::YSelect, 0);
-    }
-    Ready::Setting(settings(select, priority, overflow, underflow))
+    Ok(settings(select, priority, overflow, underflow))
 }

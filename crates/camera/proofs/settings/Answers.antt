@@ -34,7 +34,7 @@ returns c =
     λ i. record {
       x = record { mode = Linear (low_value f.select c.requires i); start = pos 0; end = x_end i; below = flat; above = flat };
       y = record { select = to_z-of_z f.select i; start = pos 0; end = y_end i; below = flat; above = flat };
-      priority = c.chosen.ensures i;
-      overflow = c.chosen-2.ensures i;
-      underflow = c.chosen-3.ensures i;
+      priority = c.unwrap_or.ensures i;
+      overflow = c.unwrap_or-2.ensures i;
+      underflow = c.unwrap_or-3.ensures i;
     }
