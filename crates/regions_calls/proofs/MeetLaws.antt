@@ -1,21 +1,27 @@
 -- The code's overlap test comes to `overlaps`: two spans that meet have the larger of their first numbers in common. Assumes nothing.
 --     meet-common, common-meet     spans that meet, and a number in both
 --     one-meets, none-meets        some slot passes the code's test, or none does
-use Prim.Native.Nat.{ℕ, ◌+◌, ◌≤◌, ◌<◌}
+--     any_overlaps                 the test of every struct of a table
+use Prim.Native.Nat.{ℕ, suc, ◌+◌, ◌≤◌, ◌<◌}
 use native.Mathlib.Decide.{dec_le, dec_lt}
 use native.Mathlib.Omega.{arith}
-use mathlib.Core.Path.{◌≡◌, refl, ap}
+use mathlib.Core.Path.{◌≡◌, refl, sym, ap, ◌∙◌}
 use mathlib.Core.Bool.{Bool, true, false, ◌&&◌}
-use mathlib.Core.List.{List}
-use lib.ListN.{length, get_or, get_or-eq_default}
+use mathlib.Core.List.{List, [], ◌∷◌, map}
+use lib.ListN.{length, length-map, get_or, get_or-eq_default}
 use lib.Dec.{leb, ltb}
 use borrow.Author.Tests.{le-leb, leb-true, lt-ltb, ltb-true}
 use Rattle.general.proofs.TestLaws.{and_left, and_right, and_both}
+use Rattle.std.specs.List.{list_any}
+use Rattle.std.proofs.lemmas.List.Folds.{list_any_at}
 use Rattle.regions.specs.declared.Rectangle.{Rectangle}
-use Rattle.regions.specs.Slots.{Slot, empty, filled, overlaps}
+use Rattle.regions.specs.declared.Region.{Region}
+use Rattle.regions.specs.Slots.{Slot, empty, filled, slot_of, overlaps}
 use Rattle.regions.specs.Rules.{slot_at}
 use Rattle.regions.specs.Overlaps.{Shared}
 use Rattle.regions.proofs.OverlapLaws.{InRectangle, has_in, in-has, overlaps-shared, shared-overlaps}
+use Rattle.regions.specs.Calls.{no_region}
+use Rattle.regions_calls.proofs.StepLaws.{slot_at-region}
 use Rattle.regions_calls.specs.Steps.{spans_meet, slot_meets}
 
 -- a test that cannot hold fails
@@ -102,3 +108,27 @@ module _ (slots : List Slot) (g : Rectangle) where
           let does_not = f s.number (filled-lt slots s.number s.id s.other s.there) in
           let l = ap (λ (s : Slot). slot_meets s g) s.there in
           let z : ◌≡◌ {A = ℕ} 0 1 = cc in omega arith
+
+-- ---- the test of every struct of a table, one after another
+module _ (g : Rectangle) where
+  some-meets : (l : List Region) → list_any (λ r. slot_meets (slot_of r) g) l ≡ true → (n : ℕ) × (slot_meets (slot_at (map slot_of l) n) g ≡ true)
+  unfolding slot_at
+  some-meets [] e = absurd (let z : ◌≡◌ {A = ℕ} 0 1 = cc in omega arith)
+  some-meets (r ∷ l) e = go (slot_meets (slot_of r) g) refl (λ rest. some-meets l rest)
+    where
+      go : (b : Bool) → slot_meets (slot_of r) g ≡ b
+          → (list_any (λ r. slot_meets (slot_of r) g) l ≡ true → (n : ℕ) × (slot_meets (slot_at (map slot_of l) n) g ≡ true))
+          → (n : ℕ) × (slot_meets (slot_at (map slot_of (r ∷ l)) n) g ≡ true)
+      go true t rest = (0, t)
+      go false t rest = let k = rest (rw t at e) in (suc k.0, k.1)
+
+  pub any_overlaps : (l : List Region) → list_any (λ r. slot_meets (slot_of r) g) l ≡ overlaps (map slot_of l) g
+  any_overlaps l = go (list_any (λ r. slot_meets (slot_of r) g) l) refl
+    where
+      go : (b : Bool) → list_any (λ r. slot_meets (slot_of r) g) l ≡ b → b ≡ overlaps (map slot_of l) g
+      go true e = let k = some-meets l e in sym (one-meets (map slot_of l) g k.0 k.1)
+      go false e = sym (none-meets (map slot_of l) g (λ n h. fails _ (λ t.
+          let meets : slot_meets (slot_of (get_or l n no_region)) g ≡ true = ap (λ (s : Slot). slot_meets s g) (slot_at-region l n) ∙ t in
+          let long : n < length l = omega (arith, h, length-map l slot_of) in
+          let some = list_any_at (λ r. slot_meets (slot_of r) g) l n no_region long meets in
+          absurd (let z : ◌≡◌ {A = ℕ} 0 1 = cc in omega arith))))

@@ -6,7 +6,6 @@
 --     row_fits, column_fits                 the corner of a box in a rectangle of a valid layout
 --     box_in-region .. box_in-at              a box in a rectangle, test after test
 --     found_box-slot .. found_part-in         a box in a region, and a part of it, test after test
---     refused-of, at_of                     what a result tells
 --     found-refused, found_at               what a box found tells
 --     edit-refused, edit-found              an edit refused by 1 to 4, 8, 9, and past them
 --     read-refused, read_found              a read
@@ -23,13 +22,12 @@ use lib.ListN.{length, get_or, get_or-map}
 use lib.Dec.{ltb}
 use borrow.Author.Tests.{lt-ltb, le-ltb}
 use lib.IntN.{ℤ}
-use Rattle.refusal.specs.declared.Answer.{Answer}
-use Rattle.refusal.specs.declared.Answer.TheVariants.{Accepted, Refused}
-use Rattle.refusal.specs.declared.Refusal.{Refusal}
+use Rattle.std.specs.Prelude.{Ok, Err}
+use Rattle.std.specs.Result.{is_err}
+use Rattle.refusal.specs.declared.Fault.{Fault}
 use Rattle.refusal.specs.declared.Refusal.TheVariants.{Bounds}
-use Rattle.refusal.specs.Checks.{require_at, in_order, result}
-use Rattle.refusal.specs.declared.Quantity.TheVariants.{Is, Refused as NotGiven}
-use Rattle.refusal.proofs.CheckLaws.{in_order-passed, in_order-refused, result-refused, leaves-before, result-given}
+use Rattle.refusal.specs.Checks.{require_at, in_order, given, Answer, Accepted, refused_at}
+use Rattle.refusal.proofs.CheckLaws.{in_order-passed, in_order-refused, given-accepted, given-refused, given-ok, given-err, leaves-before, in_order-front}
 use Rattle.layout.specs.declared.CubeLayout.{CubeLayout}
 use Rattle.layout.specs.declared.ElementBox.{ElementBox}
 use Rattle.layout.specs.Boxes.{one_element, box_count}
@@ -43,9 +41,8 @@ use Rattle.regions.specs.declared.RegionTable.{RegionTable}
 use Rattle.regions.specs.Slots.{Slot, empty, filled, slot_of, slots_of, overlaps, rectangle_inside}
 use Rattle.regions.specs.Rules.{Access, slot_at, is_filled, rectangle_of, id_of, rectangle_named, box_in_rectangle, cube_box, region_box, whole_region, slot_checks, region_box_checks, access_of, read_checks, edit_checks, release_checks}
 use Rattle.regions.specs.Calls.{no_region, edit_answer, edit_buffer, read_answer, read_elements, release_answer, release_table, release_buffer, region_position, region_count}
-use Rattle.regions.proofs.RuleLaws.{ValidBounds, box-accepted}
+use Rattle.regions.proofs.RuleLaws.{ValidBounds, slot-accepted, box-accepted}
 use Rattle.regions.proofs.CallLaws.{box-passes, after-9}
-use Rattle.regions.specs.declared.FoundBox.TheVariants.{At, Refused as NotFound}
 use Rattle.regions_calls.specs.declared.rules.Part.{Part}
 use Rattle.regions_calls.specs.Steps.{box_in, found_box, part_box, found_part}
 
@@ -80,6 +77,10 @@ module _ (n : ℕ) (low : n < 16) (g : Region) {s : Slot} (there : slot_of g ≡
   pub vacant-is : (ltb n 16 && not (is_filled s)) ≡ not g.placed
   vacant-is = rw (lt-ltb n 16 low) (ap not (ap is_filled (sym there) ∙ flag-filled g))
 
+-- the same, of the slot with a number
+pub filled_at : (t : RegionTable) (n : ℕ) → is_filled (slot_at (slots_of t) n) ≡ (get_or t.slots n no_region).placed
+filled_at t n = ap is_filled (sym (slot_at-table t n)) ∙ flag-filled (get_or t.slots n no_region)
+
 pub rectangle-is : (g : Region) {s : Slot} {id : ℕ} → slot_of g ≡ s → s ≡ filled id (rectangle_of s) → rectangle_of s ≡ g.rectangle
 unfolding slot_of rectangle_of
 rectangle-is g {s} {id} there full = go g.placed (there ∙ full)
@@ -92,6 +93,18 @@ pub owner-is : (g : Region) {s : Slot} → slot_of g ≡ s → g.placed ≡ true
 unfolding slot_of id_of
 owner-is g there t = ap id_of (sym there) ∙ rw t
 
+pub owner_at : (t : RegionTable) (n : ℕ) → (get_or t.slots n no_region).placed ≡ true → id_of (slot_at (slots_of t) n) ≡ (get_or t.slots n no_region).owner
+owner_at t n placed = owner-is (get_or t.slots n no_region) (slot_at-table t n) placed
+
+-- ---- what is_err tells of an answer
+pub refused-is : (a : Answer) → is_err a ≡ true → (f : Fault) × (a ≡ Err f)
+refused-is (Ok _) e = absurd (let z : ◌≡◌ {A = ℕ} 0 1 = cc in omega arith)
+refused-is (Err f) e = (f, refl)
+
+pub accepted-is : (a : Answer) → is_err a ≡ false → a ≡ Accepted
+accepted-is (Ok _) e = refl
+accepted-is (Err f) e = absurd (let z : ◌≡◌ {A = ℕ} 0 1 = cc in omega arith)
+
 -- ---- a box in a rectangle of a valid layout
 module _ (q : CubeLayout) (ok : Valid q) (g : Rectangle) (b : ElementBox) (v : ValidBounds q g b) where
   pub row_fits : g.row + b.row ≤ 8192
@@ -101,65 +114,63 @@ module _ (q : CubeLayout) (ok : Valid q) (g : Rectangle) (b : ElementBox) (v : V
   column_fits = omega (arith, v.box.columns.fit, ok.width_le)
 
 module _ (q : CubeLayout) (g : Rectangle) (b : ElementBox) where
-  pub box_in-region : rectangle_inside q g ≡ false → NotFound Bounds 0 ≡ box_in q g b
-  unfolding box_in result in_order require_at
+  pub box_in-region : rectangle_inside q g ≡ false → Err (refused_at 0 Bounds) ≡ box_in q g b
+  unfolding box_in given in_order require_at
   box_in-region e = rw e
 
   module _ (inside : rectangle_inside q g ≡ true) where
-    pub box_in-box : box_in_rectangle q g b ≡ false → NotFound Bounds 0 ≡ box_in q g b
-    unfolding box_in result in_order require_at
+    pub box_in-box : box_in_rectangle q g b ≡ false → Err (refused_at 0 Bounds) ≡ box_in q g b
+    unfolding box_in given in_order require_at
     box_in-box e = rw (inside, e)
 
-    pub box_in-at : box_in_rectangle q g b ≡ true → At (cube_box g b) ≡ box_in q g b
-    unfolding box_in result in_order require_at
+    pub box_in-at : box_in_rectangle q g b ≡ true → Ok (cube_box g b) ≡ box_in q g b
+    unfolding box_in given in_order require_at
     box_in-at e = rw (inside, e)
 
 -- ---- a box in a region
-pub refused-of : (a : Answer) (v : ElementBox) {r : Refusal} {i : ℕ} → result At NotFound a v ≡ NotFound r i → a ≡ Refused r i
-unfolding result
-refused-of Accepted v e = absurd (let z : ◌≡◌ {A = ℕ} 0 1 = cc in omega arith)
-refused-of (Refused r i) v e = cc
-
-pub at_of : (a : Answer) (v : ElementBox) {box : ElementBox} → result At NotFound a v ≡ At box → (a ≡ Accepted) × (box ≡ v)
-unfolding result
-at_of Accepted v e = (refl, cc)
-at_of (Refused r i) v e = absurd (let z : ◌≡◌ {A = ℕ} 0 1 = cc in omega arith)
-
 module _ (a : Access) (b : ElementBox) where
-  pub found_box-slot : {r : Refusal} {i : ℕ} → in_order (slot_checks a) ≡ Refused r i → NotFound r i ≡ found_box a b
+  pub found_box-slot : {f : Fault} → in_order (slot_checks a) ≡ Err f → Err f ≡ found_box a b
   unfolding found_box region_box_checks
-  found_box-slot e = sym (result-refused _ _ _ (in_order-refused (slot_checks a) _ e))
+  found_box-slot e = sym (given-refused _ (in_order-refused (slot_checks a) _ e))
 
   pub found_box-in : in_order (slot_checks a) ≡ Accepted → {g : Rectangle} → rectangle_named a ≡ g → box_in a.layout g b ≡ found_box a b
   unfolding found_box region_box_checks box_in
   found_box-in ok e =
-      ap (λ (r : Rectangle). box_in a.layout r b) (sym e) ∙ ap (λ (v : Answer). result At NotFound v (region_box a b)) (sym (in_order-passed (slot_checks a) _ ok))
+      ap (λ (r : Rectangle). box_in a.layout r b) (sym e) ∙ ap (λ (v : Answer). given v (region_box a b)) (sym (in_order-passed (slot_checks a) _ ok))
 
   -- what a box found, or not found, tells
-  pub found-refused : {r : Refusal} {i : ℕ} → found_box a b ≡ NotFound r i → in_order (region_box_checks a b) ≡ Refused r i
+  pub found-refused : {f : Fault} → found_box a b ≡ Err f → in_order (region_box_checks a b) ≡ Err f
   unfolding found_box
-  found-refused e = refused-of _ _ e
+  found-refused e = given-err _ _ _ e
 
-  pub found_at : {box : ElementBox} → found_box a b ≡ At box → (in_order (region_box_checks a b) ≡ Accepted) × (box ≡ region_box a b)
+  pub found_at : {box : ElementBox} → found_box a b ≡ Ok box → (in_order (region_box_checks a b) ≡ Accepted) × (box ≡ region_box a b)
   unfolding found_box
-  found_at e = at_of _ _ e
+  found_at e = let g = given-ok _ _ _ e in (g.0, sym g.1)
 
 -- a part of a region
 pub found_part-in : (a : Access) (part : Part) → in_order (slot_checks a) ≡ Accepted → {g : Rectangle} → rectangle_named a ≡ g → box_in a.layout g (part_box a.layout g part) ≡ found_part a part
 found_part-in a part ok e =
     ap (λ (r : Rectangle). box_in a.layout r (part_box a.layout r part)) (sym e) ∙ found_box-in a (part_box a.layout (rectangle_named a) part) ok refl
 
+-- the same by the struct that the slot's checks gave
+pub found_part-named : (t : RegionTable) (n id : ℕ) (part : Part) {r : Region}
+    → (in_order (slot_checks (access_of t n id)) ≡ Accepted) × (get_or t.slots n no_region ≡ r)
+    → box_in t.layout r.rectangle (part_box t.layout r.rectangle part) ≡ found_part (access_of t n id) part
+found_part-named t n id part {r} e =
+    let there : slot_of r ≡ slot_at (slots_of t) n = ap slot_of (sym e.1) ∙ slot_at-table t n in
+    found_part-in (access_of t n id) part e.0 (rectangle-is r there (slot-accepted (access_of t n id) e.0).placed)
+
 -- ---- edit and read: refused before the box is found, and past it
 module _ (t : RegionTable) (n id : ℕ) (b : ElementBox) where
   module _ (xs : List ℤ) (before : List ℕ) where
-    pub edit-refused : {r : Refusal} {i : ℕ} → found_box (access_of t n id) b ≡ NotFound r i
-        → (Refused r i ≡ edit_answer t n id b xs (length before)) × (before ≡ edit_buffer t n id b xs before)
+    pub edit-refused : {f : Fault} → found_box (access_of t n id) b ≡ Err f
+        → (Err f ≡ edit_answer t n id b xs (length before)) × (before ≡ edit_buffer t n id b xs before)
     unfolding edit_answer edit_checks edit_buffer
     edit-refused e =
         let denied = in_order-refused (region_box_checks (access_of t n id) b) _ (found-refused (access_of t n id) b e) in
         (sym denied, sym (leaves-before _ before denied))
 
-    pub edit-found : {box : ElementBox} → found_box (access_of t n id) b ≡ At box
+    pub edit-found : {box : ElementBox} → found_box (access_of t n id) b ≡ Ok box
         → (write_box_answer t.layout box xs (length before) ≡ edit_answer t n id b xs (length before)) × (write_box_buffer t.layout box xs before ≡ edit_buffer t n id b xs before)
     unfolding write_box_answer write_box_buffer admit_checks edit_answer edit_checks edit_buffer box_count
     edit-found e =
@@ -169,14 +180,14 @@ module _ (t : RegionTable) (n id : ℕ) (b : ElementBox) where
         (rw f.1 same, rw (f.1, same))
 
   module _ (buffer : List ℕ) (before : List ℤ) where
-    pub read-refused : {r : Refusal} {i : ℕ} → found_box (access_of t n id) b ≡ NotFound r i
-        → (Refused r i ≡ read_answer t n id b (length before) (length buffer)) × (before ≡ read_elements t n id b buffer before)
+    pub read-refused : {f : Fault} → found_box (access_of t n id) b ≡ Err f
+        → (Err f ≡ read_answer t n id b (length before) (length buffer)) × (before ≡ read_elements t n id b buffer before)
     unfolding read_answer read_checks read_elements
     read-refused e =
         let denied = in_order-refused (region_box_checks (access_of t n id) b) _ (found-refused (access_of t n id) b e) in
         (sym denied, sym (leaves-before _ before denied))
 
-    pub read_found : {box : ElementBox} → found_box (access_of t n id) b ≡ At box
+    pub read_found : {box : ElementBox} → found_box (access_of t n id) b ≡ Ok box
         → (read_box_answer t.layout box (length before) (length buffer) ≡ read_answer t n id b (length before) (length buffer)) × (read_box_elements t.layout box buffer before ≡ read_elements t n id b buffer before)
     unfolding read_box_answer read_box_elements admit_checks read_answer read_checks read_elements box_count
     read_found e =
@@ -186,44 +197,44 @@ module _ (t : RegionTable) (n id : ℕ) (b : ElementBox) where
 
 -- ---- position
 module _ (t : RegionTable) (n id c h w : ℕ) where
-  pub position-refused : {r : Refusal} {i : ℕ} → found_box (access_of t n id) (one_element c h w) ≡ NotFound r i → NotGiven r i ≡ region_position t n id c h w
+  pub position-refused : {f : Fault} → found_box (access_of t n id) (one_element c h w) ≡ Err f → Err f ≡ region_position t n id c h w
   unfolding region_position
-  position-refused e = sym (result-refused _ _ _ (found-refused (access_of t n id) (one_element c h w) e))
+  position-refused e = sym (given-refused _ (found-refused (access_of t n id) (one_element c h w) e))
 
-  pub position-found : {box : ElementBox} → found_box (access_of t n id) (one_element c h w) ≡ At box → position_quantity t.layout box.channel box.row box.column ≡ region_position t n id c h w
+  pub position-found : {box : ElementBox} → found_box (access_of t n id) (one_element c h w) ≡ Ok box → position_quantity t.layout box.channel box.row box.column ≡ region_position t n id c h w
   unfolding region_position position_quantity
   position-found e =
       let f = found_at (access_of t n id) (one_element c h w) e in
-      rw f.1 (result-given _ _ _ (box-passes (access_of t n id) (one_element c h w) f.0) ∙ sym (result-given _ _ _ f.0))
+      rw f.1 (given-accepted _ (box-passes (access_of t n id) (one_element c h w) f.0) ∙ sym (given-accepted _ f.0))
 
 -- ---- count
-pub found-counts : (a : Access) (b : ElementBox) {box : ElementBox} → found_box a b ≡ At box → (box.channels ≤ 8192) × (box.rows ≤ 8192) × (box.columns ≤ 8192)
+pub found-counts : (a : Access) (b : ElementBox) {box : ElementBox} → found_box a b ≡ Ok box → (box.channels ≤ 8192) × (box.rows ≤ 8192) × (box.columns ≤ 8192)
 found-counts a b e =
     let f = found_at a b e in
     let v = box-accepted a b f.0 in
     subst⁻¹ (λ (x : ElementBox). (x.channels ≤ 8192) × (x.rows ≤ 8192) × (x.columns ≤ 8192)) f.1 (box-counts a.layout (region_box a b) v.slot.layout v.bounds.box)
 
 module _ (t : RegionTable) (n id : ℕ) where
-  pub count-refused : {r : Refusal} {i : ℕ} → found_box (access_of t n id) (whole_region (access_of t n id)) ≡ NotFound r i → NotGiven r i ≡ region_count t n id
+  pub count-refused : {f : Fault} → found_box (access_of t n id) (whole_region (access_of t n id)) ≡ Err f → Err f ≡ region_count t n id
   unfolding region_count
-  count-refused e = sym (result-refused _ _ _ (found-refused (access_of t n id) (whole_region (access_of t n id)) e))
+  count-refused e = sym (given-refused _ (found-refused (access_of t n id) (whole_region (access_of t n id)) e))
 
-  pub count-found : {box : ElementBox} → found_box (access_of t n id) (whole_region (access_of t n id)) ≡ At box → Is (box.channels * box.rows * box.columns) ≡ region_count t n id
+  pub count-found : {box : ElementBox} → found_box (access_of t n id) (whole_region (access_of t n id)) ≡ Ok box → Ok (box.channels * box.rows * box.columns) ≡ region_count t n id
   unfolding region_count box_count
   count-found e =
       let f = found_at (access_of t n id) (whole_region (access_of t n id)) e in
-      rw f.1 (sym (result-given _ _ _ f.0))
+      rw f.1 (sym (given-accepted _ f.0))
 
 -- ---- release
 module _ (t : RegionTable) (n id : ℕ) (before : List ℕ) where
-  pub release-refused : {r : Refusal} {i : ℕ} → found_box (access_of t n id) (whole_region (access_of t n id)) ≡ NotFound r i
-      → (Refused r i ≡ release_answer t n id (length before)) × (t ≡ release_table t n id (length before)) × (before ≡ release_buffer t n id before)
+  pub release-refused : {f : Fault} → found_box (access_of t n id) (whole_region (access_of t n id)) ≡ Err f
+      → (Err f ≡ release_answer t n id (length before)) × (t ≡ release_table t n id (length before)) × (before ≡ release_buffer t n id before)
   unfolding release_answer release_checks release_table release_buffer
   release-refused e =
       let denied = in_order-refused (region_box_checks (access_of t n id) (whole_region (access_of t n id))) _ (found-refused (access_of t n id) (whole_region (access_of t n id)) e) in
       (sym denied, sym (leaves-before _ t denied), sym (leaves-before _ before denied))
 
-  pub release-found : {box : ElementBox} → found_box (access_of t n id) (whole_region (access_of t n id)) ≡ At box
+  pub release-found : {box : ElementBox} → found_box (access_of t n id) (whole_region (access_of t n id)) ≡ Ok box
       → (clear_box_answer t.layout box (length before) ≡ release_answer t n id (length before)) × (clear_box_buffer t.layout box before ≡ release_buffer t n id before)
   unfolding clear_box_answer clear_box_buffer release_answer release_checks release_buffer
   release-found e =
@@ -231,6 +242,12 @@ module _ (t : RegionTable) (n id : ℕ) (before : List ℕ) where
       let same = after-9 (access_of t n id) (whole_region (access_of t n id)) _ f.0 in
       (rw f.1 same, rw (f.1, same))
 
--- the slot of a box that was found is one of the sixteen
-pub found_number : (a : Access) (b : ElementBox) {box : ElementBox} → found_box a b ≡ At box → a.number < 16
-found_number a b e = (box-accepted a b (found_at a b e).0).slot.number
+-- a box that release clears: its slot is one of the sixteen
+pub released_number : (t : RegionTable) (n id len : ℕ) → release_answer t n id len ≡ Accepted → n < 16
+unfolding release_answer release_checks
+released_number t n id len e =
+    let a = access_of t n id in
+    (box-accepted a (whole_region a) (in_order-front (region_box_checks a (whole_region a)) _ e)).slot.number
+
+-- the lemmas that the checks of a slot go by
+pub ruleset slots_checked = (in_order-passed, filled_at, owner_at, overlaps-table)

@@ -3,27 +3,23 @@ use Prim.Native.Nat.{◌*◌, ◌≤◌}
 use native.Mathlib.Omega.{arith}
 use native.Mathlib.Nat.{mul-le-mul}
 use mathlib.Core.Path.{sym, ◌∙◌}
+use Rattle.refusal.proofs.CheckLaws.{handed-on}
 use Rattle.regions.specs.Rules.{access_of, whole_region}
 use Rattle.regions_calls.proofs.StepLaws.{count-refused, count-found, found-counts}
 use Rattle.regions_calls.proofs.count.Goals as goal
 
-pub overflow_mul-elements-in-At : goal.overflow_mul-elements-in-At
-overflow_mul-elements-in-At c =
-    let small : let b = c.in-At.all in (b.channels ≤ 8192) × (b.rows ≤ 8192) × (b.columns ≤ 8192) = let f = c in
-    let a = access_of f.args.table f.args.slot f.args.id in
-    found-counts a (whole_region a) (sym f.find_box.ensures ∙ c.in-At.is) in
-    let lines-le : let b = c.in-At.all in b.channels * b.rows ≤ 67108864 = let b = c.in-At.all in mul-le-mul {n₁ = b.channels} {m₁ = b.rows} {n₂ = 8192} {m₂ = 8192} small.0 small.1 in
-    let m = c in
-    let b = m.in-At.all in
-    omega (arith, mul-le-mul {n₁ = b.channels * b.rows} {m₁ = b.columns} {n₂ = 67108864} {m₂ = 8192} lines-le small.2)
+pub returns-in_err-all : goal.returns-in_err-all
+returns-in_err-all c =
+    let a = c.args in
+    handed-on c.from_residual.result c.from_residual.ensures.1 ∙ count-refused a.table a.slot a.id (sym c.find_box.ensures ∙ c.in_err-all.was)
 
-pub returns-in-Refused : goal.returns-in-Refused
-returns-in-Refused c = let f = c in
-    let a = f.args in
-    count-refused a.table a.slot a.id (sym f.find_box.ensures ∙ c.in-Refused.is)
+pub overflow_mul-elements-2 : goal.overflow_mul-elements-2
+overflow_mul-elements-2 c =
+    let b = c.in_ok-all.all in
+    let a = access_of c.args.table c.args.slot c.args.id in
+    let small : (b.channels ≤ 8192) × (b.rows ≤ 8192) × (b.columns ≤ 8192) = found-counts a (whole_region a) (sym c.find_box.ensures ∙ c.in_ok-all.was) in
+    let lines : b.channels * b.rows ≤ 67108864 = mul-le-mul {n₁ = b.channels} {m₁ = b.rows} {n₂ = 8192} {m₂ = 8192} small.0 small.1 in
+    omega (arith, mul-le-mul {n₁ = b.channels * b.rows} {m₁ = b.columns} {n₂ = 67108864} {m₂ = 8192} lines small.2)
 
-pub returns-in-At : goal.returns-in-At
-returns-in-At c = let m = c in
-    let f = m in
-    let a = f.args in
-    count-found a.table a.slot a.id (sym f.find_box.ensures ∙ m.in-At.is)
+pub returns : goal.returns
+returns c = let a = c.args in count-found a.table a.slot a.id (sym c.find_box.ensures ∙ c.in_ok-all.was)

@@ -1,0 +1,12 @@
+-- `regions_calls::rules::region_named` meets its contract: it makes the definition's checks in their order. Assumes nothing.
+use mathlib.Core.Path.{sym, ◌∙◌}
+use Rattle.refusal.proofs.CheckLaws.{in_order-refused, given-refused, handed-on}
+use Rattle.layout.specs.Rules.{layout_checks}
+use Rattle.regions.specs.Rules.{slot_checks}
+use Rattle.regions_calls.proofs.rules.region_named.Goals as goal
+
+pub returns-in_err-check : goal.returns-in_err-check
+unfolding slot_checks
+returns-in_err-check c =
+    handed-on c.from_residual.result c.from_residual.ensures.1
+    ∙ sym (given-refused _ (in_order-refused (layout_checks c.args.table.layout) _ (sym c.check.ensures ∙ c.in_err-check.was)))
