@@ -4,10 +4,11 @@ use Prim.Native.Nat.{ℕ, ◌+◌, ◌<◌}
 use mathlib.Core.Path.{◌≡◌, refl}
 use mathlib.Core.List.{List, [], ◌∷◌, ◌++◌, map}
 use lib.ListN.{length}
+use Rattle.std.proofs.Common.{None, Some}
 use Rattle.layout.specs.Geometry.{layout_of}
 use Rattle.lines.specs.Texts.{before, split, fields_of, same_text}
 use Rattle.lines.specs.Numbers.{is_digit, all_digits, value_after, is_empty, well_begun, number_of, and_number, listed, in_table, numbers_of}
-use Rattle.records.specs.declared.Record.TheVariants.{Frame, Stall, Cell, Leave, Unreadable}
+use Rattle.records.specs.declared.Record.TheVariants.{Frame, Stall, Cell, Leave}
 use Rattle.records.specs.Records.{frame_word, stall_word, cell_word, leave_word, is_named, by_word, by_fields, record_of}
 use Rattle.records.proofs.LineLaws.{record-long}
 
@@ -41,18 +42,18 @@ left = refl
 
 pub record Readable : Type 0 where
   -- the example: `frame` 3 2 40 0 128 256 0; `stall` 0 0 0 2 2 7; `stall` 1 1 0 2 1 8; `cell` 0 33 1 1 7; `leave` 0 7
-  pub frame : record_of (line frame_word ((3 ∷ []) ∷ (2 ∷ []) ∷ (4 ∷ 0 ∷ []) ∷ (0 ∷ []) ∷ (1 ∷ 2 ∷ 8 ∷ []) ∷ (2 ∷ 5 ∷ 6 ∷ []) ∷ (0 ∷ []) ∷ [])) ≡ Frame (layout_of 3 2 40 0 128 256 0)
-  pub stall : record_of (line stall_word ((0 ∷ []) ∷ (0 ∷ []) ∷ (0 ∷ []) ∷ (2 ∷ []) ∷ (2 ∷ []) ∷ (7 ∷ []) ∷ [])) ≡ Stall 0 0 0 2 2 7
-  pub second : record_of (line stall_word ((1 ∷ []) ∷ (1 ∷ []) ∷ (0 ∷ []) ∷ (2 ∷ []) ∷ (1 ∷ []) ∷ (8 ∷ []) ∷ [])) ≡ Stall 1 1 0 2 1 8
-  pub cell : record_of (line cell_word ((0 ∷ []) ∷ (3 ∷ 3 ∷ []) ∷ (1 ∷ []) ∷ (1 ∷ []) ∷ (7 ∷ []) ∷ [])) ≡ Cell 0 33 1 1 7
-  pub leave : record_of (line leave_word ((0 ∷ []) ∷ (7 ∷ []) ∷ [])) ≡ Leave 0 7
+  pub frame : record_of (line frame_word ((3 ∷ []) ∷ (2 ∷ []) ∷ (4 ∷ 0 ∷ []) ∷ (0 ∷ []) ∷ (1 ∷ 2 ∷ 8 ∷ []) ∷ (2 ∷ 5 ∷ 6 ∷ []) ∷ (0 ∷ []) ∷ [])) ≡ Some (Frame (layout_of 3 2 40 0 128 256 0))
+  pub stall : record_of (line stall_word ((0 ∷ []) ∷ (0 ∷ []) ∷ (0 ∷ []) ∷ (2 ∷ []) ∷ (2 ∷ []) ∷ (7 ∷ []) ∷ [])) ≡ Some (Stall 0 0 0 2 2 7)
+  pub second : record_of (line stall_word ((1 ∷ []) ∷ (1 ∷ []) ∷ (0 ∷ []) ∷ (2 ∷ []) ∷ (1 ∷ []) ∷ (8 ∷ []) ∷ [])) ≡ Some (Stall 1 1 0 2 1 8)
+  pub cell : record_of (line cell_word ((0 ∷ []) ∷ (3 ∷ 3 ∷ []) ∷ (1 ∷ []) ∷ (1 ∷ []) ∷ (7 ∷ []) ∷ [])) ≡ Some (Cell 0 33 1 1 7)
+  pub leave : record_of (line leave_word ((0 ∷ []) ∷ (7 ∷ []) ∷ [])) ≡ Some (Leave 0 7)
   -- `cell` 0 0 0 4294967295 7, and any number for the id: `stall` 0 0 0 1 1 0, `leave` 0 4294967295
-  pub greatest : record_of (line cell_word ((0 ∷ []) ∷ (0 ∷ []) ∷ (0 ∷ []) ∷ largest ∷ (7 ∷ []) ∷ [])) ≡ Cell 0 0 0 4294967295 7
-  pub none : record_of (line stall_word ((0 ∷ []) ∷ (0 ∷ []) ∷ (0 ∷ []) ∷ (1 ∷ []) ∷ (1 ∷ []) ∷ (0 ∷ []) ∷ [])) ≡ Stall 0 0 0 1 1 0
-  pub any : record_of (line leave_word ((0 ∷ []) ∷ largest ∷ [])) ≡ Leave 0 4294967295
+  pub greatest : record_of (line cell_word ((0 ∷ []) ∷ (0 ∷ []) ∷ (0 ∷ []) ∷ largest ∷ (7 ∷ []) ∷ [])) ≡ Some (Cell 0 0 0 4294967295 7)
+  pub none : record_of (line stall_word ((0 ∷ []) ∷ (0 ∷ []) ∷ (0 ∷ []) ∷ (1 ∷ []) ∷ (1 ∷ []) ∷ (0 ∷ []) ∷ [])) ≡ Some (Stall 0 0 0 1 1 0)
+  pub any : record_of (line leave_word ((0 ∷ []) ∷ largest ∷ [])) ≡ Some (Leave 0 4294967295)
   -- `frame` and seven times 4294967295: 82 bytes
   pub longest : record_of (line frame_word (largest ∷ largest ∷ largest ∷ largest ∷ largest ∷ largest ∷ largest ∷ []))
-      ≡ Frame (layout_of 4294967295 4294967295 4294967295 4294967295 4294967295 4294967295 4294967295)
+      ≡ Some (Frame (layout_of 4294967295 4294967295 4294967295 4294967295 4294967295 4294967295 4294967295))
 
 pub readable : Readable
 unfolding before split fields_of same_text is_digit all_digits value_after is_empty well_begun number_of and_number listed in_table numbers_of is_named by_word by_fields record_of
@@ -63,33 +64,33 @@ readable =
 
 pub record NotReadable : Type 0 where
   -- an empty line
-  pub empty : record_of [] ≡ Unreadable
+  pub empty : record_of [] ≡ None
   -- `cell` 0, an empty field, 1 1 7
-  pub gap : record_of (line cell_word ((0 ∷ []) ∷ [] ∷ (1 ∷ []) ∷ (1 ∷ []) ∷ (7 ∷ []) ∷ [])) ≡ Unreadable
+  pub gap : record_of (line cell_word ((0 ∷ []) ∷ [] ∷ (1 ∷ []) ∷ (1 ∷ []) ∷ (7 ∷ []) ∷ [])) ≡ None
   -- `stall` 00 0 0 2 2 7 and `leave` 0 07: a leading zero
-  pub zero : record_of (line stall_word ((0 ∷ 0 ∷ []) ∷ (0 ∷ []) ∷ (0 ∷ []) ∷ (2 ∷ []) ∷ (2 ∷ []) ∷ (7 ∷ []) ∷ [])) ≡ Unreadable
-  pub zero_id : record_of (line leave_word ((0 ∷ []) ∷ (0 ∷ 7 ∷ []) ∷ [])) ≡ Unreadable
+  pub zero : record_of (line stall_word ((0 ∷ 0 ∷ []) ∷ (0 ∷ []) ∷ (0 ∷ []) ∷ (2 ∷ []) ∷ (2 ∷ []) ∷ (7 ∷ []) ∷ [])) ≡ None
+  pub zero_id : record_of (line leave_word ((0 ∷ []) ∷ (0 ∷ 7 ∷ []) ∷ [])) ≡ None
   -- `cell` 0 0 0 4294967296 7 and `leave` 0 4294967296
-  pub over : record_of (line cell_word ((0 ∷ []) ∷ (0 ∷ []) ∷ (0 ∷ []) ∷ too_large ∷ (7 ∷ []) ∷ [])) ≡ Unreadable
-  pub over_id : record_of (line leave_word ((0 ∷ []) ∷ too_large ∷ [])) ≡ Unreadable
+  pub over : record_of (line cell_word ((0 ∷ []) ∷ (0 ∷ []) ∷ (0 ∷ []) ∷ too_large ∷ (7 ∷ []) ∷ [])) ≡ None
+  pub over_id : record_of (line leave_word ((0 ∷ []) ∷ too_large ∷ [])) ≡ None
   -- `cell` 0 33 1 1 7 and a tab: an empty field more
-  pub tab : record_of (line cell_word ((0 ∷ []) ∷ (3 ∷ 3 ∷ []) ∷ (1 ∷ []) ∷ (1 ∷ []) ∷ (7 ∷ []) ∷ [] ∷ [])) ≡ Unreadable
+  pub tab : record_of (line cell_word ((0 ∷ []) ∷ (3 ∷ 3 ∷ []) ∷ (1 ∷ []) ∷ (1 ∷ []) ∷ (7 ∷ []) ∷ [] ∷ [])) ≡ None
   -- `cell` 0 33 1 1 7 and a carriage return: a byte of the last field
-  pub return : record_of (line cell_word ((0 ∷ []) ∷ (3 ∷ 3 ∷ []) ∷ (1 ∷ []) ∷ (1 ∷ []) ∷ (7 ∷ []) ∷ []) ++ 13 ∷ []) ≡ Unreadable
+  pub return : record_of (line cell_word ((0 ∷ []) ∷ (3 ∷ 3 ∷ []) ∷ (1 ∷ []) ∷ (1 ∷ []) ∷ (7 ∷ []) ∷ []) ++ 13 ∷ []) ≡ None
   -- without the id: `stall` 0 0 0 2 2, `cell` 0 33 1 1, `leave` 0
-  pub stall_missing : record_of (line stall_word ((0 ∷ []) ∷ (0 ∷ []) ∷ (0 ∷ []) ∷ (2 ∷ []) ∷ (2 ∷ []) ∷ [])) ≡ Unreadable
-  pub cell_missing : record_of (line cell_word ((0 ∷ []) ∷ (3 ∷ 3 ∷ []) ∷ (1 ∷ []) ∷ (1 ∷ []) ∷ [])) ≡ Unreadable
-  pub leave_missing : record_of (line leave_word ((0 ∷ []) ∷ [])) ≡ Unreadable
+  pub stall_missing : record_of (line stall_word ((0 ∷ []) ∷ (0 ∷ []) ∷ (0 ∷ []) ∷ (2 ∷ []) ∷ (2 ∷ []) ∷ [])) ≡ None
+  pub cell_missing : record_of (line cell_word ((0 ∷ []) ∷ (3 ∷ 3 ∷ []) ∷ (1 ∷ []) ∷ (1 ∷ []) ∷ [])) ≡ None
+  pub leave_missing : record_of (line leave_word ((0 ∷ []) ∷ [])) ≡ None
   -- a field too many: `stall` 0 0 0 2 2 7 7, `cell` 0 33 1 1 7 7, `leave` 0 7 7
-  pub stall_extra : record_of (line stall_word ((0 ∷ []) ∷ (0 ∷ []) ∷ (0 ∷ []) ∷ (2 ∷ []) ∷ (2 ∷ []) ∷ (7 ∷ []) ∷ (7 ∷ []) ∷ [])) ≡ Unreadable
-  pub cell_extra : record_of (line cell_word ((0 ∷ []) ∷ (3 ∷ 3 ∷ []) ∷ (1 ∷ []) ∷ (1 ∷ []) ∷ (7 ∷ []) ∷ (7 ∷ []) ∷ [])) ≡ Unreadable
-  pub leave_extra : record_of (line leave_word ((0 ∷ []) ∷ (7 ∷ []) ∷ (7 ∷ []) ∷ [])) ≡ Unreadable
+  pub stall_extra : record_of (line stall_word ((0 ∷ []) ∷ (0 ∷ []) ∷ (0 ∷ []) ∷ (2 ∷ []) ∷ (2 ∷ []) ∷ (7 ∷ []) ∷ (7 ∷ []) ∷ [])) ≡ None
+  pub cell_extra : record_of (line cell_word ((0 ∷ []) ∷ (3 ∷ 3 ∷ []) ∷ (1 ∷ []) ∷ (1 ∷ []) ∷ (7 ∷ []) ∷ (7 ∷ []) ∷ [])) ≡ None
+  pub leave_extra : record_of (line leave_word ((0 ∷ []) ∷ (7 ∷ []) ∷ (7 ∷ []) ∷ [])) ≡ None
   -- `leave` with no field
-  pub word : record_of leave_word ≡ Unreadable
+  pub word : record_of leave_word ≡ None
   -- `cell` 0 33 1 1 :, the byte after 9
-  pub colon : record_of (line cell_word ((0 ∷ []) ∷ (3 ∷ 3 ∷ []) ∷ (1 ∷ []) ∷ (1 ∷ []) ∷ []) ++ 9 ∷ 58 ∷ []) ≡ Unreadable
+  pub colon : record_of (line cell_word ((0 ∷ []) ∷ (3 ∷ 3 ∷ []) ∷ (1 ∷ []) ∷ (1 ∷ []) ∷ []) ++ 9 ∷ 58 ∷ []) ≡ None
   -- over 120 bytes, whatever they are
-  pub long : (bytes : List ℕ) → 120 < length bytes → record_of bytes ≡ Unreadable
+  pub long : (bytes : List ℕ) → 120 < length bytes → record_of bytes ≡ None
 
 pub not-readable : NotReadable
 unfolding before split fields_of same_text is_digit all_digits value_after is_empty well_begun number_of and_number listed in_table numbers_of is_named by_word by_fields record_of

@@ -1,7 +1,7 @@
 -- A line's record: from its first field and the numbers behind it, and from the line that was collected. Assumes nothing.
 --     fields-is       a text's record, by its word and the numbers behind it
 --     line-record     a collected line has its text's record
-use Prim.Native.Nat.{ℕ, ◌-◌, ◌≤◌, ◌<◌}
+use Prim.Native.Nat.{ℕ, ◌≤◌, ◌<◌}
 use mathlib.Core.Path.{◌≡◌, sym}
 use mathlib.Core.List.{List}
 use native.Mathlib.Decide.{dec_le}
@@ -12,17 +12,18 @@ use Rattle.lines.specs.declared.Line.{Line}
 use Rattle.lines.specs.declared.Numbers.{Numbers}
 use Rattle.lines.specs.Texts.{fields_of, part_length}
 use Rattle.lines.specs.Numbers.{numbers_behind}
-use Rattle.lines.proofs.SplitLaws.{split-first, part-whole}
+use Rattle.lines.proofs.SplitLaws.{split-first}
 use Rattle.lines.proofs.HoldLaws.{Holds, holds-whole, holds_text}
-use Rattle.records.specs.declared.Record.TheVariants.{Unreadable}
+use Rattle.std.proofs.Common.{Option, None}
+use Rattle.std.specs.Option.{option_and_then}
 use Rattle.records.specs.Records.{by_word, by_fields, line_record, record_of}
 
-pub fields-is : (text : List ℕ) (end : ℕ) (ns : Numbers) → end ≡ part_length 9 text → ns ≡ numbers_behind (take (length text - end) (drop end text))
-    → by_word (take end text) ns ≡ by_fields (fields_of text)
+pub fields-is : (text : List ℕ) (end : ℕ) (ns : Option Numbers) → end ≡ part_length 9 text → ns ≡ numbers_behind (drop end text)
+    → option_and_then (by_word (take end text)) ns ≡ by_fields (fields_of text)
 unfolding fields_of by_fields
-fields-is text end ns e m = sym (rw (split-first 9 text) (rw (← e, m, part-whole text end)))
+fields-is text end ns e m = sym (rw (split-first 9 text) (rw (← e, m)))
 
-pub record-long : (line : List ℕ) → 120 < length line → record_of line ≡ Unreadable
+pub record-long : (line : List ℕ) → 120 < length line → record_of line ≡ None
 unfolding record_of
 record-long line h = rw (lt-leb (length line) 120 h)
 

@@ -8,112 +8,133 @@ ghost use Rattle.records.specs.Records.{frame_of, stall_of, cell_of, leave_of, i
 use layout::CubeLayout;
 use lines::{Line, Numbers};
 
-// A record: a cube's layout; a region's slot, first column and row, columns and rows, and its owner's id; an element of a region by slot, channel, row and
-// column, and the id; a region that is left, by its slot and the id; or no record.
-#[derive(Drop)]
+// A record: a cube's layout; a region's slot, its rectangle, and its owner's id; an element of a region, and the id; a region that is left, by its slot
+// and the id. A line that is no record is None.
+#[derive(Clone, Copy)]
 pub enum Record {
     Frame(CubeLayout),
-    Stall(u32, u32, u32, u32, u32, u32),
-    Cell(u32, u32, u32, u32, u32),
-    Leave(u32, u32),
-    Unreadable,
+    Stall {
+        slot: u32,
+        column: u32,
+        row: u32,
+        columns: u32,
+        rows: u32,
+        id: u32,
+    },
+    Cell {
+        slot: u32,
+        channel: u32,
+        row: u32,
+        column: u32,
+        id: u32,
+    },
+    Leave {
+        slot: u32,
+        id: u32,
+    },
 }
 
 // A cube's layout.
 fn frame(ns: Numbers) -> Record
     ensures { result ≡ frame_of ns }
 {
-    let v = ns.values;
-    let layout = CubeLayout {
-        width: v[0],
-        height: v[1],
-        channels: v[2],
-        precision: v[3],
-        line: v[4],
-        surface: v[5],
-        start: v[6],
-    };
-    Record::Frame(layout)
+    let [width, height, channels, precision, line, surface, start] = ns.values;
+    Record::Frame(CubeLayout {
+        width,
+        height,
+        channels,
+        precision,
+        line,
+        surface,
+        start,
+    })
 }
 
 // A region.
 fn stall(ns: Numbers) -> Record
     ensures { result ≡ stall_of ns }
 {
-    let v = ns.values;
-    Record::Stall(v[0], v[1], v[2], v[3], v[4], v[5])
+    let [slot, column, row, columns, rows, id, _] = ns.values;
+    Record::Stall {
+        slot,
+        column,
+        row,
+        columns,
+        rows,
+        id,
+    }
 }
 
 // An element of a region.
 fn cell(ns: Numbers) -> Record
     ensures { result ≡ cell_of ns }
 {
-    let v = ns.values;
-    Record::Cell(v[0], v[1], v[2], v[3], v[4])
+    let [slot, channel, row, column, id, ..] = ns.values;
+    Record::Cell {
+        slot,
+        channel,
+        row,
+        column,
+        id,
+    }
 }
 
 // A region that is left.
 fn leave(ns: Numbers) -> Record
     ensures { result ≡ leave_of ns }
 {
-    let v = ns.values;
-    Record::Leave(v[0], v[1])
+    let [slot, id, ..] = ns.values;
+    Record::Leave { slot, id }
 }
 
 // Whether a word is a name, and so many numbers stand behind it.
+#[tactic(auto, unfolding(crate::specs::Records::is_named))]
 fn is_named(word: &[u8], ns: Numbers, name: &[u8], count: usize) -> bool
     ensures { result ≡ is_named word.now ns name.now count }
 {
-    if ns.count != count {
-        return false;
-    }
-    lines_calls::same(word, name)
+    ns.count == count && lines_calls::same(word, name)
 }
 
 // The record of a word and the numbers behind it.
-fn by_word(word: &[u8], ns: Numbers) -> Record
+#[tactic(auto, unfolding(crate::specs::Records::by_word))]
+fn by_word(word: &[u8], ns: Numbers) -> Option<Record>
     ensures { result ≡ by_word word.now ns }
 {
     if is_named(word, ns, b"frame", 7) {
-        return frame(ns);
+        Some(frame(ns))
+    } else if is_named(word, ns, b"stall", 6) {
+        Some(stall(ns))
+    } else if is_named(word, ns, b"cell", 5) {
+        Some(cell(ns))
+    } else if is_named(word, ns, b"leave", 2) {
+        Some(leave(ns))
+    } else {
+        None
     }
-    if is_named(word, ns, b"stall", 6) {
-        return stall(ns);
-    }
-    if is_named(word, ns, b"cell", 5) {
-        return cell(ns);
-    }
-    if is_named(word, ns, b"leave", 2) {
-        return leave(ns);
-    }
-    Record::Unreadable
 }
 
 // The record of a text, by its fields.
-fn by_fields(text: &[u8]) -> Record
+fn by_fields(text: &[u8]) -> Option<Record>
     ensures { result ≡ by_fields (fields_of text.now) }
 {
-    let end = lines_calls::part_length(text, 9);
-    let ns = lines_calls::read_numbers(&text[end..]);
-    by_word(&text[..end], ns)
+    let (word, rest) = text.split_at(lines_calls::part_length(text, b'\t'));
+    by_word(word, lines_calls::read_numbers(rest)?)
 }
 
 // The record of a collected line.
-pub fn of_line(line: Line) -> Record
+#[tactic(auto, unfolding(crate::specs::Records::line_record, lines::specs::Collecting::line_text))]
+pub fn of_line(line: Line) -> Option<Record>
     ensures { result ≡ line_record line }
 {
     if !lines_calls::whole(line) {
-        return Record::Unreadable;
+        return None;
     }
-    let n = line.length as usize;
-    let bytes = line.bytes;
-    by_fields(&bytes[..n])
+    by_fields(&line.bytes[..line.length as usize])
 }
 
 // The record of a line, its newline not counted.
-pub fn read(line: &[u8]) -> Record
+pub fn read(line: &[u8]) -> Option<Record>
     ensures { result ≡ record_of line.now }
 {
-    let empty = lines_calls::empty();
-    of_line(lines_calls::add(empty, line))
+    of_line(lines_calls::add(lines_calls::empty(), line))
 }

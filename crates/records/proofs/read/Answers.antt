@@ -7,4 +7,4 @@ use Rattle.records.proofs.read.Goals as goal
 pub returns : goal.returns
 returns c =
     let line = c.args.line.now in
-    c.of_line.ensures ∙ rw (c.add.ensures, c.empty-empty.ensures) (line-record _ line (holds-added line _ _ holds-empty))
+    c.of_line.ensures ∙ rw (c.add.ensures, c.empty.ensures) (line-record _ line (holds-added line _ _ holds-empty))
