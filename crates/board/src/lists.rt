@@ -1,197 +1,260 @@
-// The three lists that lines lend: 0 the elements, 1 the buffer, 2 the samples. Their members are put and told by lifted numbers.
-use crate::numbers::{of_byte, of_short, of_signed, short, signed};
-use crate::print::{end_line, print_item, print_natural};
+// The three lists that lines lend, and how lists are told: by their members, or by a checksum.
+use crate::commands::ListName;
+use crate::line::Unmade;
+use crate::numbers::word_of;
+use crate::print::{end_line, print, print_byte, print_member, print_natural, print_position};
+use crate::source::Source;
 
-// Where members come from: the camera curves, or numbers drawn from a state, each base + draw mod span, the base growing by step; a span of 0 is all 2^32.
-#[derive(Clone, Copy)]
-pub struct Source {
-    pub curves: bool,
-    pub state: u32,
-    pub base: u64,
-    pub span: u64,
-    pub step: u64,
-}
+// A checksum: each word w that is told makes it s·65599 + w + 2147483648 + 1, modulo 2^32.
+#[derive(Clone, Copy, PartialEq)]
+pub struct Sum(u32);
 
-// How many members a list can have.
-pub fn room(list: u32) -> usize {
-    match list {
-        0 => 307200,
-        1 => 2457600,
-        _ => 65536,
+impl Sum {
+    // Of nothing.
+    pub const EMPTY: Sum = Sum(0);
+
+    // With a word more.
+    pub fn with(self, word: u32) -> Sum {
+        Sum(
+            self.0
+                .wrapping_mul(65599)
+                .wrapping_add(word)
+                .wrapping_add(2147483649),
+        )
+    }
+
+    // With a position more: its lower 32 bits, then the others.
+    pub fn with_position(self, position: u64) -> Sum {
+        let lower = (position % 4294967296) as u32;
+        self.with(lower).with((position / 4294967296) as u32)
+    }
+
+    pub fn print(self) {
+        print_natural(u64::from(self.0));
     }
 }
 
-// The source of one number again and again.
-pub fn always(v: u64) -> Source {
-    Source {
-        curves: false,
-        state: 0,
-        base: v,
-        span: 1,
-        step: 0,
+// What stands in a list that is told.
+pub trait Told: Copy {
+    // Prints it.
+    fn print(self);
+
+    // A checksum with it more.
+    fn summed(self, sum: Sum) -> Sum;
+}
+
+// What stands in a list that lines lend.
+pub trait Member: Told {
+    // The member with these lower bits.
+    fn of_word(word: u32) -> Self;
+}
+
+impl Told for i16 {
+    fn print(self) {
+        print_member(i64::from(self));
+    }
+
+    fn summed(self, sum: Sum) -> Sum {
+        sum.with(word_of(i64::from(self)))
     }
 }
 
-// The state after x.
-fn next_state(x: u32) -> u32 {
-    ((x as u64 * 1103515245 + 12345) % 2147483648) as u32
-}
-
-// The draw of a state: the upper halves of the two states after it.
-fn draw_of(x: u32) -> u64 {
-    let first = next_state(x);
-    let second = next_state(first);
-    (first / 32768) as u64 * 65536 + (second / 32768) as u64
-}
-
-// Entry i of the curves, X's 65 and then Y's.
-fn curve_entry(i: usize) -> u64 {
-    let k = (i % 4294967296) as u32;
-    if k < 65 {
-        return of_short(curve_stored::x_entry(k));
+impl Member for i16 {
+    fn of_word(word: u32) -> i16 {
+        ((word & 0xffff) as u16).cast_signed()
     }
-    of_short(curve_stored::y_entry(k - 65))
 }
 
-// The number for index i.
-fn value_of(s: Source, i: usize) -> u64 {
-    if s.curves {
-        return curve_entry(i);
+impl Told for u8 {
+    fn print(self) {
+        print_byte(self);
     }
-    let base = s.base % 4294967296;
-    if s.span == 0 {
-        return base + draw_of(s.state) % 4294967296;
+
+    fn summed(self, sum: Sum) -> Sum {
+        sum.with(u32::from(self))
     }
-    base + draw_of(s.state) % s.span % 4294967296
 }
 
-// The source for the next index.
-fn next(source: Source) -> Source {
-    let mut s = source;
-    s.state = next_state(next_state(s.state));
-    s.base = (s.base % 4294967296 + s.step % 4294967296) % 4294967296;
-    s
+impl Member for u8 {
+    fn of_word(word: u32) -> u8 {
+        (word & 0xff) as u8
+    }
 }
 
-// Puts a number at index i of a list, if there is one.
-pub fn put(
-    list: u32,
-    i: usize,
-    v: u64,
-    elements: &mut [i16],
-    buffer: &mut [u8],
-    samples: &mut [i32],
-) {
-    match list {
-        0 => {
-            if i < elements.len() {
-                elements[i] = short(v);
+impl Told for i32 {
+    fn print(self) {
+        print_member(i64::from(self));
+    }
+
+    fn summed(self, sum: Sum) -> Sum {
+        sum.with(self.cast_unsigned())
+    }
+}
+
+impl Member for i32 {
+    fn of_word(word: u32) -> i32 {
+        word.cast_signed()
+    }
+}
+
+// A position.
+impl Told for u64 {
+    fn print(self) {
+        print_position(self);
+    }
+
+    fn summed(self, sum: Sum) -> Sum {
+        sum.with_position(self)
+    }
+}
+
+// Prints a list, 32 members to a line.
+pub fn show<T: Told>(list: &[T]) {
+    for row in list.chunks(32) {
+        for (i, &member) in row.iter().enumerate() {
+            if 0 < i {
+                print(b" ");
             }
+            member.print();
         }
-        1 => {
-            if i < buffer.len() {
-                buffer[i] = (v % 256) as u8;
-            }
-        }
-        _ => {
-            if i < samples.len() {
-                samples[i] = signed(v);
-            }
-        }
-    }
-}
-
-// Puts the numbers of a source at the indices from `from` to `end` of a list.
-pub fn draw(
-    list: u32,
-    from: usize,
-    end: usize,
-    source: Source,
-    elements: &mut [i16],
-    buffer: &mut [u8],
-    samples: &mut [i32],
-) {
-    let mut s = source;
-    let mut i = from;
-    while i < end {
-        put(list, i, value_of(s, i), elements, buffer, samples);
-        s = next(s);
-        i += 1;
-    }
-}
-
-// The number at index i of a list; 0 where there is none.
-fn at(list: u32, i: usize, elements: &[i16], buffer: &[u8], samples: &[i32]) -> u64 {
-    match list {
-        0 => {
-            if i < elements.len() {
-                of_short(elements[i])
-            } else {
-                0
-            }
-        }
-        1 => {
-            if i < buffer.len() {
-                of_byte(buffer[i])
-            } else {
-                0
-            }
-        }
-        _ => {
-            if i < samples.len() {
-                of_signed(samples[i])
-            } else {
-                0
-            }
-        }
-    }
-}
-
-// A checksum with one number more, which is printed if `shown`; `ends` says whether it is the last of its line.
-pub fn told(sum: u64, list: u32, ends: bool, v: u64, shown: bool) -> u64 {
-    if shown {
-        print_item(list == 1, ends, v);
-    }
-    (sum % 4294967296 * 65599 + v % 4294967296 + 1) % 4294967296
-}
-
-// Whether the i-th number of so many is the last of its line, which has 32.
-pub fn is_last(i: usize, count: usize) -> bool {
-    i % 32 == 0 || i == count
-}
-
-// How many members a list has.
-fn count_of(list: u32, elements: &[i16], buffer: &[u8], samples: &[i32]) -> usize {
-    match list {
-        0 => elements.len(),
-        1 => buffer.len(),
-        _ => samples.len(),
-    }
-}
-
-// The checksum of a list, which is printed if `shown`.
-pub fn tell(list: u32, shown: bool, elements: &[i16], buffer: &[u8], samples: &[i32]) -> u64 {
-    let count = count_of(list, elements, buffer, samples);
-    let mut sum = 0;
-    let mut i = 0;
-    while i < count {
-        let v = at(list, i, elements, buffer, samples);
-        i += 1;
-        sum = told(sum, list, is_last(i, count), v, shown);
-    }
-    sum
-}
-
-// Ends the answer of a call that may have changed a list: prints the list, or checksums, that of the elements or the buffer with the other's before it.
-pub fn tell_left(list: u32, sums: bool, elements: &[i16], buffer: &[u8], samples: &[i32]) {
-    if !sums {
         end_line();
-        tell(list, true, elements, buffer, samples);
-        return;
     }
-    if list < 2 {
-        print_natural(tell(1 - list, false, elements, buffer, samples));
+}
+
+// The checksum of a list.
+pub fn sum_of<T: Told>(list: &[T]) -> Sum {
+    list.iter()
+        .fold(Sum::EMPTY, |sum, &member| member.summed(sum))
+}
+
+// Ends an answer: prints a list, or its checksum.
+pub fn tell<T: Told>(sums: bool, list: &[T]) {
+    if sums {
+        sum_of(list).print();
+        end_line();
+    } else {
+        end_line();
+        show(list);
     }
-    print_natural(tell(list, false, elements, buffer, samples));
-    end_line();
+}
+
+// Ends the answer of a call that may have changed a list: prints that list, or checksums, with the other list's before it.
+pub fn tell_left<T: Told, U: Told>(sums: bool, other: &[T], left: &[U]) {
+    if sums {
+        sum_of(other).print();
+    }
+    tell(sums, left);
+}
+
+// A list that lines lend: room for its members, and how many are lent.
+#[derive(Drop)]
+pub struct List<'a, T> {
+    room: &'a mut [T],
+    count: usize,
+}
+
+impl<'a, T: Member> List<'a, T> {
+    // A list with nothing lent.
+    pub fn new(room: &'a mut [T]) -> List<'a, T> {
+        List { room, count: 0 }
+    }
+
+    // What is lent.
+    pub fn lent(&self) -> &[T] {
+        let n = self.count.min(self.room.len());
+        &self.room[..n]
+    }
+
+    pub fn lent_mut(&mut self) -> &mut [T] {
+        let n = self.count.min(self.room.len());
+        &mut self.room[..n]
+    }
+
+    // Puts a member so many times from an index on. The index behind them, if there is room.
+    fn put(&mut self, from: usize, times: u64, word: u32) -> Option<usize> {
+        let end = from.checked_add(usize::try_from(times).ok()?)?;
+        for place in self.room.get_mut(from..end)? {
+            *place = T::of_word(word);
+        }
+        Some(end)
+    }
+
+    // Lends so many members of a source, from an index on, if there is room.
+    fn draw(&mut self, from: usize, n: usize, source: Source) -> Result<(), Unmade> {
+        let end = from.checked_add(n).ok_or(Unmade::Unreadable)?;
+        let mut source = source;
+        for place in self.room.get_mut(from..end).ok_or(Unmade::Unreadable)? {
+            *place = T::of_word(source.next());
+        }
+        self.count = end;
+        Ok(())
+    }
+
+    // Lends so many more behind those that are lent, if there is room.
+    fn draw_more(&mut self, n: usize, source: Source) -> Result<(), Unmade> {
+        let from = self.count;
+        self.draw(from, n, source)
+    }
+}
+
+#[derive(Drop)]
+pub struct Lists<'a> {
+    pub elements: List<'a, i16>,
+    pub buffer: List<'a, u8>,
+    pub samples: List<'a, i32>,
+}
+
+impl Lists<'_> {
+    // Puts a number into a list so many times, from an index on. The index behind them, if there is room.
+    pub fn put(&mut self, list: ListName, from: usize, times: u64, n: i64) -> Option<usize> {
+        let word = word_of(n);
+        match list {
+            ListName::Elements => self.elements.put(from, times, word),
+            ListName::Buffer => self.buffer.put(from, times, word),
+            ListName::Samples => self.samples.put(from, times, word),
+        }
+    }
+
+    // Lends the members that a line has put.
+    pub fn lend(&mut self, list: ListName, members: usize) {
+        match list {
+            ListName::Elements => self.elements.count = members,
+            ListName::Buffer => self.buffer.count = members,
+            ListName::Samples => self.samples.count = members,
+        }
+    }
+
+    // Lends so many members of a source, if there is room.
+    pub fn draw(&mut self, list: ListName, n: usize, source: Source) -> Result<(), Unmade> {
+        match list {
+            ListName::Elements => self.elements.draw(0, n, source),
+            ListName::Buffer => self.buffer.draw(0, n, source),
+            ListName::Samples => self.samples.draw(0, n, source),
+        }
+    }
+
+    // Lends so many more behind those that are lent, if there is room.
+    pub fn draw_more(&mut self, list: ListName, n: usize, source: Source) -> Result<(), Unmade> {
+        match list {
+            ListName::Elements => self.elements.draw_more(n, source),
+            ListName::Buffer => self.buffer.draw_more(n, source),
+            ListName::Samples => self.samples.draw_more(n, source),
+        }
+    }
+
+    pub fn show(&self, list: ListName) {
+        match list {
+            ListName::Elements => show(self.elements.lent()),
+            ListName::Buffer => show(self.buffer.lent()),
+            ListName::Samples => show(self.samples.lent()),
+        }
+    }
+
+    pub fn sum(&self, list: ListName) -> Sum {
+        match list {
+            ListName::Elements => sum_of(self.elements.lent()),
+            ListName::Buffer => sum_of(self.buffer.lent()),
+            ListName::Samples => sum_of(self.samples.lent()),
+        }
+    }
 }

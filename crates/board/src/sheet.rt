@@ -1,16 +1,13 @@
 // A sheet, whose bytes are the buffer, given whole and cut in two at each index (scope paper, "The sheet program").
 ghost use Rattle.std.specs.Prelude.{◌+◌, ◌≤◌, length};
 
-use crate::print::{STDOUT_FILENO, end_line, print_line_number, print_natural};
+use crate::print::{end_line, print, print_line_number, print_natural};
 use sheet_io::Printed;
 
 // A sheet after a call for nothing.
 fn after_nothing(before: Printed) -> Printed {
-    let sheet = before.sheet;
-    let fed = script_calls::feed(sheet, b"");
-    let after = fed.sheet;
     Printed {
-        sheet: after,
+        sheet: script_calls::feed(before.sheet, b"").sheet,
         sum: before.sum,
     }
 }
@@ -19,22 +16,19 @@ fn after_nothing(before: Printed) -> Printed {
 fn in_parts(shown: bool, first: &[u8], second: &[u8]) -> u64 {
     let begun = sheet_io::feed_all(shown, sheet_io::begin(shown), first);
     let rest = sheet_io::feed_all(shown, after_nothing(begun), second);
-    let done = sheet_io::finish(shown, rest);
-    done.sum
+    sheet_io::finish(shown, rest).sum
 }
 
-// The first index at which a cut prints something else than what has the checksum `whole`, or `cuts` where none of the first `cuts` does.
-fn first_difference(input: &[u8], cuts: usize, whole: u64) -> usize
+// The first of so many cuts, from the beginning on, that prints something else than what has the checksum `whole`.
+fn first_difference(input: &[u8], cuts: usize, whole: u64) -> Option<usize>
     requires { cuts ≤ length input.now + 1 }
 {
-    let mut k = 0;
-    while k < cuts {
+    for k in 0..cuts {
         if in_parts(false, &input[..k], &input[k..]) != whole {
-            return k;
+            return Some(k);
         }
-        k += 1;
     }
-    k
+    None
 }
 
 // At how many indices an input is cut in two: at each, both ends too, or at the first 400 of a long one.
@@ -48,13 +42,17 @@ fn cut_count(len: usize) -> usize
 pub fn run(line: u64, input: &[u8]) {
     let whole = in_parts(true, input, b"");
     let cuts = cut_count(input.len());
-    let k = first_difference(input, cuts, whole);
+    let difference = first_difference(input, cuts, whole);
     print_line_number(line);
-    if k < cuts {
-        io::write_all(STDOUT_FILENO, b" differs at");
-    } else {
-        io::write_all(STDOUT_FILENO, b" same cuts");
+    match difference {
+        Some(k) => {
+            print(b" differs at");
+            print_natural(k as u64);
+        }
+        None => {
+            print(b" same cuts");
+            print_natural(cuts as u64);
+        }
     }
-    print_natural(k as u64);
     end_line();
 }

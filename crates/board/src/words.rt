@@ -1,142 +1,125 @@
 // A word of a line, read byte by byte: a decimal number with a sign where negative, or hexadecimal digits; after either, `*` and how many times it stands.
 
-// What was read of a word: its sign, its number, how many digits it has; whether a `*` came, and the count after it.
+// What a word can stand for.
+#[derive(Clone, Copy, PartialEq)]
+pub enum Kind {
+    // a natural number of 32 bits
+    Natural,
+    // a signed number of 32 bits
+    Signed,
+    // a natural number below LIMIT
+    Position,
+    // a number of 64 bits: such a natural number, or -k for 2^64 - k, k at most 2^31
+    Wide,
+    // a signed number of 16 bits
+    Element,
+    // two hexadecimal digits
+    Byte,
+}
+
+// Positions are below 2^61 - 2^31.
+const LIMIT: i64 = 2305843007066210304;
+
+impl Kind {
+    // Whether a number is one of this kind.
+    fn has(self, n: i64) -> bool {
+        match self {
+            Kind::Natural => u32::try_from(n).is_ok(),
+            Kind::Signed => i32::try_from(n).is_ok(),
+            Kind::Position => (0..LIMIT).contains(&n),
+            Kind::Wide => (i64::from(i32::MIN)..LIMIT).contains(&n),
+            Kind::Element => i16::try_from(n).is_ok(),
+            Kind::Byte => u8::try_from(n).is_ok(),
+        }
+    }
+
+    // Whether a sign may stand before it.
+    fn is_signed(self) -> bool {
+        matches!(self, Kind::Signed | Kind::Wide | Kind::Element)
+    }
+}
+
+// What was read of a word: its sign, its number and how many digits it has, and the count after a `*`, if one came. The number is none once the word cannot be read.
 #[derive(Clone, Copy)]
 pub struct Word {
-    pub negative: bool,
-    pub value: u64,
-    pub digits: u32,
-    pub starred: bool,
-    pub times: u64,
+    negative: bool,
+    number: Option<u64>,
+    digits: u32,
+    times: Option<u64>,
 }
 
-// Beyond every number that a word can stand for: 2^61.
-pub const BAD: u64 = 2305843009213693952;
-
-// A word before its first byte.
-pub fn no_word() -> Word {
-    Word {
-        negative: false,
-        value: 0,
-        digits: 0,
-        starred: false,
-        times: 0,
-    }
+// A number with one digit more, if it is one.
+fn extended(number: u64, c: u8, hexadecimal: bool) -> Option<u64> {
+    let radix = if hexadecimal { 16 } else { 10 };
+    let digit = char::from(c).to_digit(radix)?;
+    number
+        .checked_mul(u64::from(radix))?
+        .checked_add(u64::from(digit))
 }
 
-// The value of a digit; 16 for any other byte.
-fn digit_of(c: u8) -> u64 {
-    match c {
-        b'0'..=b'9' => (c - b'0') as u64,
-        b'a'..=b'f' => (c - b'a') as u64 + 10,
-        b'A'..=b'F' => (c - b'A') as u64 + 10,
-        _ => 16,
+impl Word {
+    // A word before its first byte.
+    pub fn new() -> Word {
+        Word {
+            negative: false,
+            number: Some(0),
+            digits: 0,
+            times: None,
+        }
     }
-}
 
-// A number with one digit more, or BAD.
-fn extended(value: u64, c: u8, hexadecimal: bool) -> u64 {
-    let d = digit_of(c);
-    if 288230376151711743 < value {
-        return BAD;
+    // One byte more of a word of a kind, which is no space and no newline.
+    pub fn read(&mut self, c: u8, kind: Kind) {
+        match c {
+            b'*' if self.times.is_none() => self.times = Some(0),
+            b'-' if !self.negative && self.digits == 0 => self.negative = true,
+            _ => self.read_digit(c, kind == Kind::Byte),
+        }
     }
-    if d < 10 {
-        return if hexadecimal {
-            value * 16 + d
-        } else {
-            value * 10 + d
+
+    // A digit of the number, or of the count; any other byte cannot be read.
+    fn read_digit(&mut self, c: u8, hexadecimal: bool) {
+        match self.times {
+            None => {
+                self.number = self.number.and_then(|n| extended(n, c, hexadecimal));
+                self.digits = self.digits.saturating_add(1);
+            }
+            Some(times) => {
+                self.times = extended(times, c, false);
+                if self.times.is_none() {
+                    self.times = Some(0);
+                    self.number = None;
+                }
+            }
+        }
+    }
+
+    // The number of a word of a kind: a byte has two digits, and a sign is for signed numbers alone.
+    pub fn value(self, kind: Kind) -> Option<i64> {
+        let n = i64::try_from(self.number?).ok()?;
+        let value = if self.negative { -n } else { n };
+        let is_one = match kind {
+            Kind::Byte => self.digits == 2,
+            _ => 0 < self.digits,
         };
+        if is_one && (kind.is_signed() || !self.negative) && kind.has(value) {
+            Some(value)
+        } else {
+            None
+        }
     }
-    if d < 16 && hexadecimal {
-        return value * 16 + d;
-    }
-    BAD
-}
 
-// A word after a digit.
-fn with_digit(word: Word, c: u8, hexadecimal: bool) -> Word {
-    let mut w = word;
-    if w.starred {
-        w.times = extended(w.times, c, false);
-        return w;
+    // How many times it stands.
+    pub fn times(self) -> Option<u64> {
+        match self.times {
+            None => Some(1),
+            Some(0) => None,
+            Some(n) => Some(n),
+        }
     }
-    w.value = extended(w.value, c, hexadecimal);
-    if w.digits < 3 {
-        w.digits = w.digits + 1;
-    }
-    w
-}
 
-// A word after a mark, `*` or `-`: BAD where it came too late.
-fn with_mark(word: Word, star: bool, late: bool) -> Word {
-    let mut w = word;
-    w.starred = w.starred || star;
-    w.negative = w.negative || !star;
-    if late {
-        w.value = BAD;
+    // Whether a `*` came.
+    pub fn is_starred(self) -> bool {
+        self.times.is_some()
     }
-    w
-}
-
-// A word with one byte more, which is no space and no newline.
-pub fn with_byte(word: Word, c: u8, hexadecimal: bool) -> Word {
-    match c {
-        b'*' => with_mark(word, true, word.starred),
-        b'-' => with_mark(word, false, word.negative || 0 < word.digits),
-        _ => with_digit(word, c, hexadecimal),
-    }
-}
-
-// The lifted number of a word, or BAD.
-fn lifted(w: Word) -> u64 {
-    let n = w.value;
-    if w.digits == 0 {
-        return BAD;
-    }
-    if w.negative {
-        return if n <= 2147483648 { 2147483648 - n } else { BAD };
-    }
-    if n < BAD - 2147483648 {
-        n + 2147483648
-    } else {
-        BAD
-    }
-}
-
-// Whether a kind is that of bytes.
-pub fn is_byte(kind: u8) -> bool {
-    kind == b'b' || kind == b'B'
-}
-
-// Whether a lifted number is one of a kind.
-fn is_of(v: u64, kind: u8) -> bool {
-    match kind {
-        b'n' => 2147483648 <= v && v <= 6442450943,
-        b'p' => 2147483648 <= v && v < BAD,
-        b'w' => v < BAD,
-        b's' | b'S' => v <= 4294967295,
-        b'e' | b'E' => 2147450880 <= v && v <= 2147516415,
-        _ => 2147483648 <= v && v <= 2147483903,
-    }
-}
-
-// The lifted number of a word of a kind, or BAD; a byte has two digits, and a sign is for signed numbers alone.
-pub fn value_of(w: Word, kind: u8) -> u64 {
-    let v = lifted(w);
-    let byte = is_byte(kind);
-    if byte && w.digits != 2 {
-        return BAD;
-    }
-    if w.negative && (byte || kind == b'n' || kind == b'p') {
-        return BAD;
-    }
-    if is_of(v, kind) { v } else { BAD }
-}
-
-// How many times a word stands, or BAD.
-pub fn times_of(w: Word) -> u64 {
-    if !w.starred {
-        return 1;
-    }
-    if w.times == 0 { BAD } else { w.times }
 }

@@ -1,9 +1,0 @@
--- `board::lists::draw` is safe and ends. The loop's invariant: the lists keep their lengths. Assumes nothing.
-use Rattle.std.proofs.Common.{◌≡◌, ◌-◌, length}
-use Rattle.board.proofs.lists.draw.Given as goal
-
-abbrev pub invariant-loop-i : goal.invariant-loop-i
-invariant-loop-i l = (length l.elements ≡ length l.initial.elements) × (length l.buffer ≡ length l.initial.buffer) × (length l.samples ≡ length l.initial.samples)
-
-abbrev pub decreases-loop-i : goal.decreases-loop-i
-decreases-loop-i l = l.end - l.i
