@@ -1,5 +1,5 @@
 // The bytes of one atom, element by element.
-ghost use Rattle.std.specs.Prelude.{◌≡◌, ◌+◌, ◌≤◌, min, get_or, pos};
+ghost use Rattle.std.specs.Prelude.{◌≡◌, ◌+◌, ◌≤◌, get_or, pos};
 ghost use Rattle.elements.specs.Bytes.{element_bytes, byte_of};
 ghost use Rattle.elements.specs.Lists.{tabulate};
 ghost use Rattle.columns.specs.Columns.{bytes_set};
@@ -16,27 +16,14 @@ fn size(precision: u64) -> usize
 pub(crate) fn full(precision: u64) -> u64
     ensures { result ≡ atom_elements precision }
 {
-    if precision == 0 { 32 } else { 16 }
+    32 / size(precision) as u64
 }
 
 // The element at an index, 0 where there is none.
 fn element(elements: &[i16], i: usize) -> i16
     ensures { result ≡ get_or elements.now i (pos 0) }
 {
-    if i < elements.len() {
-        return elements[i];
-    }
-    0
-}
-
-// The index a channel further on; where it would pass 64 bits the greatest one, at which there is no element either.
-fn onward(i: usize, plane: usize) -> usize
-    ensures { result ≡ min (i + plane) 18446744073709551615 }
-{
-    if 18446744073709551615 - i < plane {
-        return 18446744073709551615;
-    }
-    i + plane
+    elements.get(i).copied().unwrap_or(0)
 }
 
 // Writes an element from byte k on.
@@ -61,17 +48,13 @@ pub(crate) fn bytes_of(
     ensures { result ≡ tabulate 32 (atom_byte (element_bytes precision) channels index plane elements.now) }
 {
     let e = size(precision);
-    let most = full(precision);
-    let n = if channels < most { channels } else { most };
+    let n = full(precision).min(channels);
     let mut bytes = [0u8; 32];
     let mut i = index;
-    let mut k: usize = 0;
-    let mut j: u64 = 0;
-    while j < n {
-        write_element(e, element(elements, i), k, &mut bytes);
-        i = onward(i, plane);
-        k += e;
-        j += 1;
+    for j in 0..n {
+        write_element(e, element(elements, i), j as usize * e, &mut bytes);
+        // past 64 bits there is no element either
+        i = i.saturating_add(plane);
     }
     bytes
 }

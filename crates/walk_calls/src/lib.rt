@@ -9,17 +9,15 @@ ghost use Rattle.std.specs.Prelude.{◌≡◌};
 ghost use Rattle.walk.specs.Walks.{walk_start, walk_step};
 
 use layout::CubeLayout;
-use refusal::Answer;
-use walk::{NextAtom, Started, Step, Walk};
+use refusal::Fault;
+use walk::{Step, Walk};
 
 // The walk before the first atom. It is refused as packing the same elements into a buffer of `len` bytes is: 1, 2, 3, 4, 6, 5, then 7 or 26.
-pub fn start(layout: CubeLayout, elements: &[i16], len: usize) -> Started
+pub fn start(layout: CubeLayout, elements: &[i16], len: usize) -> Result<Walk, Fault>
     ensures { result ≡ walk_start layout elements.now len }
 {
-    match cube::check_pack(layout, elements, len) {
-        Answer::Refused(refusal, at) => Started::Refused(refusal, at),
-        Answer::Accepted => Started::Walking(strides::first(layout)),
-    }
+    cube::check_pack(layout, elements, len)?;
+    Ok(strides::first(layout))
 }
 
 // The next atom, its position and bytes, and the walk behind it; or that none is left. Any walk and any elements are taken: a missing element is 0,
@@ -27,14 +25,13 @@ pub fn start(layout: CubeLayout, elements: &[i16], len: usize) -> Started
 pub fn step(walk: Walk, elements: &[i16]) -> Step
     ensures { result ≡ walk_step walk elements.now }
 {
-    let stride = strides::next(walk);
-    if !strides::is_left(walk, stride) {
+    let Some(behind) = strides::behind(walk) else {
         return Step {
-            atom: NextAtom::NoneLeft,
+            atom: None,
             bytes: [0u8; 32],
-            walk: walk,
+            walk,
         };
-    }
+    };
     let bytes = atoms::bytes_of(
         walk.precision,
         walk.channels,
@@ -43,8 +40,8 @@ pub fn step(walk: Walk, elements: &[i16]) -> Step
         elements,
     );
     Step {
-        atom: NextAtom::At(walk.position),
-        bytes: bytes,
-        walk: strides::moved(walk, stride),
+        atom: Some(walk.position),
+        bytes,
+        walk: behind,
     }
 }

