@@ -1,16 +1,17 @@
--- Bytes cleared (specs/Blocks.antt), byte by byte, and one more. Assumes nothing.
+-- Bytes cleared (specs/Blocks.antt), byte by byte, and as zeros written. Assumes nothing.
 --     cleared-in, cleared-out     a byte that is cleared, one that is not; where-is says which
 --     cleared-length              the buffer keeps its length
---     cleared-none, cleared_more  no byte; one more
---     cleared-all                 as far as the bytes are there
-use Prim.Native.Nat.{ℕ, ◌+◌, ◌≤◌, ◌<◌}
+--     cleared-past                no byte
+--     cleared-filled              the bytes written over by zeros
+use Prim.Native.Nat.{ℕ, ◌+◌, ◌-◌, ◌≤◌, ◌<◌, min}
 use native.Mathlib.Omega.{arith}
 use native.Mathlib.Decide.{dec_lt, ℕ_discrete}
 use mathlib.Core.Path.{◌≡◌, refl, sym, ap, subst, ◌∙◌}
 use mathlib.Core.Logic.{◌⊎◌, inl, inr, ⊎_elim}
-use mathlib.Core.List.{List}
-use lib.ListN.{length, get_or, set, length-set, get_or-eq_default}
-use lib.Seq.{get_or-set_same, get_or-set_other, ext_get_or}
+use mathlib.Core.List.{List, ◌++◌}
+use lib.ListN.{length, get_or, take, drop, replicate, get_or-eq_default, get_or-append, length-append, length-drop, length-replicate}
+use lib.Seq.{ext_get_or}
+use Rattle.std.proofs.lemmas.List.{get_or-replicate, get_or-take, get_or-drop, get_or-append_right, length-take-le}
 use borrow.Author.Tests.{lt-ltb, le-ltb, le-leb, lt-leb}
 use Rattle.elements.proofs.ListLaws.{length-remade, get_or-remade}
 use Rattle.columns.specs.Blocks.{cleared}
@@ -50,31 +51,48 @@ cleared-unique at n l after long hit miss =
     (λ o. miss p lt o ∙ sym (cleared-out at n l p o))
     (where-is at n p))
 
-pub cleared-none : (at n : ℕ) (l : List ℕ) → n ≡ 0 → l ≡ cleared at n l
-cleared-none at n l z = cleared-unique at n l l refl (λ p lt low high. absurd (omega arith)) (λ p lt o. refl)
-
 pub cleared-past : (at n : ℕ) (l : List ℕ) → length l ≤ at → l ≡ cleared at n l
 cleared-past at n l h = cleared-unique at n l l refl (λ p lt low high. absurd (omega arith)) (λ p lt o. refl)
 
-pub cleared_more : (at n p m : ℕ) (l : List ℕ) {buf : List ℕ} → buf ≡ cleared at n l → p ≡ at + n → p < length l → m ≡ n + 1 → set buf p 0 ≡ cleared at m l
-cleared_more at n p m l {buf} e hp room hm =
-    let before : set buf p 0 ≡ set (cleared at n l) p 0 = ap (λ (b : List ℕ). set b p 0) e in
-    let long = cleared-length at n l in
-    before
-    ∙ cleared-unique at m l (set (cleared at n l) p 0) (length-set (cleared at n l) p 0 ∙ long)
-    (λ q lt low high. elim (ℕ_discrete q p) [
-      | yes s ↦ ap (λ (x : ℕ). get_or (set (cleared at n l) p 0) x 0) s ∙ get_or-set_same (cleared at n l) p 0 0 (omega (arith, long))
-      | no f ↦ get_or-set_other (cleared at n l) p q 0 0 f ∙ cleared-in at n l q lt low (below q high f)
-    ])
-    (λ q lt o. get_or-set_other (cleared at n l) p q 0 0 (λ s. ⊎_elim (λ h. omega arith) (λ h. omega arith) o)
-    ∙ cleared-out at n l q (⊎_elim (λ h. inl h) (λ h. inr (omega arith)) o))
-  where
-    below : (q : ℕ) → q < at + m → (q ≡ p → ⊥) → q < at + n
-    below q high f = elim (dec_lt q (at + n)) [ yes h ↦ h | no g ↦ absurd (f (omega arith)) ]
+-- the bytes from `at` on written over by zeros
+module _ (at m : ℕ) (l : List ℕ) (room : at + m ≤ length l) where
+  filled : List ℕ
+  filled = take at l ++ (replicate m 0 ++ drop m (drop at l))
 
--- fewer bytes, if they end with the buffer
-pub cleared-all : (at n m : ℕ) (l : List ℕ) → n ≤ m → length l ≤ at + n → cleared at n l ≡ cleared at m l
-cleared-all at n m l h end =
-    cleared-unique at m l (cleared at n l) (cleared-length at n l)
-    (λ p lt low high. cleared-in at n l p lt low (omega arith))
-    (λ p lt o. cleared-out at n l p (⊎_elim (λ k. inl k) (λ k. inr (omega arith)) o))
+  head-long : length (take at l) ≡ at
+  head-long = length-take-le at l (omega arith)
+
+  filled-low : (p : ℕ) → p < at → get_or filled p 0 ≡ get_or l p 0
+  unfolding filled
+  filled-low p h = get_or-append (take at l) (replicate m 0 ++ drop m (drop at l)) 0 p (omega (arith, head-long)) ∙ get_or-take at l p 0 h
+
+  filled-from : (p : ℕ) → at ≤ p → get_or filled p 0 ≡ get_or (replicate m 0 ++ drop m (drop at l)) (p - at) 0
+  unfolding filled
+  filled-from p h = get_or-append_right (take at l) (replicate m 0 ++ drop m (drop at l)) at p 0 head-long h
+
+  filled-in : (p : ℕ) → at ≤ p → p < at + m → get_or filled p 0 ≡ 0
+  filled-in p low high =
+      filled-from p low
+      ∙ get_or-append (replicate m 0) (drop m (drop at l)) 0 (p - at) (omega (arith, length-replicate {A = ℕ} m 0))
+      ∙ get_or-replicate m (p - at) 0 0 (omega arith)
+
+  filled-high : (p : ℕ) → at + m ≤ p → get_or filled p 0 ≡ get_or l p 0
+  filled-high p h =
+      let q : at + (m + (p - at - m)) ≡ p = omega arith in
+      filled-from p (omega arith)
+      ∙ get_or-append_right (replicate m 0) (drop m (drop at l)) m (p - at) 0 (length-replicate {A = ℕ} m 0) (omega arith)
+      ∙ get_or-drop m (drop at l) (p - at - m) 0
+      ∙ get_or-drop at l (m + (p - at - m)) 0
+      ∙ ap (λ (x : ℕ). get_or l x 0) q
+
+  filled-length : length filled ≡ length l
+  unfolding filled
+  filled-length = simp (length-append, length-replicate, length-drop) (omega (arith, head-long))
+
+pub cleared-filled : (at m n : ℕ) (l : List ℕ) → at < length l → m ≡ min n (length l - at) → take at l ++ (replicate m 0 ++ drop m (drop at l)) ≡ cleared at n l
+unfolding filled
+cleared-filled at m n l some is =
+    let room : at + m ≤ length l = omega arith in
+    cleared-unique at n l (filled at m l room) (filled-length at m l room)
+    (λ p lt low high. filled-in at m l room p low (omega arith))
+    (λ p lt o. ⊎_elim (λ h. filled-low at m l room p h) (λ h. filled-high at m l room p (omega arith)) o)

@@ -1,12 +1,11 @@
 -- The bytes of a column of elements, two by two as units, and tiles of units (specs/Columns.antt). Assumes nothing.
 --     column_byte-lt, column_byte-column, column_byte-rows    its range; counted from a later column, from a later row
 --     pair-two, plane-le     the rows of a unit
---     step_of                from a unit's elements to the next unit's
 --     unit-one, unit-two     the unit of two elements of one byte, of one of two
 --     unit-at                unit j of column i by the place of its first element
---     half-more, tile-more   two units more in a tile, four
+--     held_more              one unit more in a tile
 --     tile-column            a tile's bytes are the columns'
---     columns-step, units-bytes, unit-bytes, byte-bytes    one turn of a loop
+--     columns-step, unit-bytes, byte-bytes, tile-unit-bytes    one turn of a loop
 use Prim.Native.Nat.{ℕ, zero, suc, ◌+◌, ◌-◌, ◌*◌, ◌/◌, ◌%◌, ◌^◌, ◌≤◌, ◌<◌}
 use native.Mathlib.Omega.{arith}
 use native.Mathlib.Numerals.{add-one}
@@ -20,7 +19,7 @@ use lib.Seq.{get_or-set_same, get_or-set_other}
 use lib.IntN.{ℤ}
 use Rattle.elements.specs.Bytes.{byte_of}
 use Rattle.elements.proofs.ByteLaws.{byte_of-lt}
-use Rattle.columns.specs.Columns.{columns, column_byte, column_unit, tile_byte, bytes_set, two_set, tile_set}
+use Rattle.columns.specs.Columns.{columns, column_byte, column_unit, tile_byte, bytes_set}
 use Rattle.columns.proofs.ColumnLaws.{columns-more, columns-under, columns-beside}
 
 -- ---- the bytes of a column
@@ -60,11 +59,6 @@ pair-rows (suc (suc (suc e))) plane low high = absurd (not-suc-le-zero (le_of_su
 pub plane-le : (e plane : ℕ) → 1 ≤ e → e ≤ 2 → plane ≤ (3 - e) * plane
 plane-le e plane low high = ⊎_elim (λ h. omega arith) (λ h. omega arith) (pair-rows e plane low high)
 
--- from a unit's elements to the next unit's
-pub step_of : (e plane step : ℕ) → 1 ≤ e → e ≤ 2 → ((e ≡ 1) × (step ≡ 2 * plane)) ⊎ ((e ≡ 1 → ⊥) × (step ≡ plane)) → step ≡ (3 - e) * plane
-step_of e plane step low high (inl w) = ⊎_elim (λ h. omega (arith, w.1, h.1)) (λ h. absurd (omega (arith, w.0, h.0))) (pair-rows e plane low high)
-step_of e plane step low high (inr w) = ⊎_elim (λ h. absurd (w.0 h.0)) (λ h. omega (arith, w.1, h.1)) (pair-rows e plane low high)
-
 -- ---- units
 
 pub unit-one : (source : ℕ → ℤ) (at plane : ℕ) → column_unit 1 source at plane 0 0 ≡ byte_of (source at) 0 + 256 * byte_of (source (at + plane)) 0
@@ -95,39 +89,31 @@ module _ (e : ℕ) (low : 1 ≤ e) (high : e ≤ 2) (source : ℕ → ℤ) (from
 
 -- ---- tiles
 
+module _ (units i j : ℕ) (h : j < units) where
+  turned : units * i + j ≡ i * units + j
+  turned = omega (arith, mul_comm units i)
+
+  column-of-unit : (units * i + j) / units ≡ i
+  column-of-unit = rw turned (digits_div i h)
+
+  unit-of-column : (units * i + j) % units ≡ j
+  unit-of-column = rw turned (digits_mod i h)
+
 module _ (P : ℕ → ℕ → ℕ → Type 0) where
   -- the first q units of a tile of so many units a column
   abbrev pub Held : (units q : ℕ) → List ℕ → Type 0
   Held units q l = (m : ℕ) → m < q → P (m / units) (m % units) (get_or l m 0)
 
-  held_more : (units : ℕ) (l : List ℕ) (n j q v : ℕ) → q / units ≡ n → q % units ≡ j → q < length l → Held units q l → P n j v → Held units (q + 1) (set l q v)
-  held_more units l n j q v c d lt h e m hm =
+  -- unit j of column i more
+  pub held_more : (units : ℕ) (l : List ℕ) (i j v : ℕ) → j < units → units * i + j < length l → Held units (units * i + j) l → P i j v
+      → Held units (units * i + (j + 1)) (set l (units * i + j) v)
+  held_more units l i j v hj lt h e m hm =
+      let q = units * i + j in
+      let k : m < suc q = omega arith in
       ⊎_elim
-      (λ t. subst (λ (x : ℕ). P (x / units) (x % units) (get_or (set l q v) x 0)) (sym t) (rw (get_or-set_same l q v 0 lt, c, d) e))
-      (λ k. rw (get_or-set_other l q m v 0 (λ s. omega arith)) (h m k))
-      (eq-or-lt_of_le (le_of_suc-le-suc (subst (λ (x : ℕ). m < x) (add-one q) hm)))
-
-  pub half-more : (l : List ℕ) (n a b : ℕ) → 2 * n + 2 ≤ length l → Held 2 (2 * n) l → P n 0 a → P n 1 b
-      → Held 2 (2 * (n + 1)) (set (set l (2 * n) a) (2 * n + 1) b)
-  half-more l n a b room h ea eb m hm =
-      let l1 = set l (2 * n) a in
-      let r1 : length l1 ≡ length l = length-set l (2 * n) a in
-      let h1 : Held 2 (2 * n + 1) l1 = held_more 2 l n 0 (2 * n) a (omega arith) (omega arith) (omega arith) h ea in
-      held_more 2 l1 n 1 (2 * n + 1) b (omega arith) (omega arith) (omega (arith, r1)) h1 eb m (omega arith)
-
-  pub tile-more : (l : List ℕ) (n a b c d : ℕ) → 4 * n + 4 ≤ length l → Held 4 (4 * n) l → P n 0 a → P n 1 b → P n 2 c → P n 3 d
-      → Held 4 (4 * (n + 1)) (set (set (set (set l (4 * n) a) (4 * n + 1) b) (4 * n + 2) c) (4 * n + 3) d)
-  tile-more l n a b c d room h ea eb ec ed m hm =
-      let l1 = set l (4 * n) a in
-      let l2 = set l1 (4 * n + 1) b in
-      let l3 = set l2 (4 * n + 2) c in
-      let r1 : length l1 ≡ length l = length-set l (4 * n) a in
-      let r2 : length l2 ≡ length l = length-set l1 (4 * n + 1) b ∙ r1 in
-      let r3 : length l3 ≡ length l = length-set l2 (4 * n + 2) c ∙ r2 in
-      let h1 : Held 4 (4 * n + 1) l1 = held_more 4 l n 0 (4 * n) a (omega arith) (omega arith) (omega arith) h ea in
-      let h2 : Held 4 (4 * n + 2) l2 = λ x hx. held_more 4 l1 n 1 (4 * n + 1) b (omega arith) (omega arith) (omega (arith, r1)) h1 eb x (omega arith) in
-      let h3 : Held 4 (4 * n + 3) l3 = λ x hx. held_more 4 l2 n 2 (4 * n + 2) c (omega arith) (omega arith) (omega (arith, r2)) h2 ec x (omega arith) in
-      held_more 4 l3 n 3 (4 * n + 3) d (omega arith) (omega arith) (omega (arith, r3)) h3 ed m (omega arith)
+      (λ t. subst (λ (x : ℕ). P (x / units) (x % units) (get_or (set l q v) x 0)) (sym t) (rw (get_or-set_same l q v 0 lt, column-of-unit units i j hj, unit-of-column units i j hj) e))
+      (λ s. rw (get_or-set_other l q m v 0 (λ z. omega arith)) (h m s))
+      (eq-or-lt_of_le (le_of_suc-le-suc k))
 
 -- the low byte and the high byte of a unit
 two_bytes : (t x y v b s : ℕ) → t ≡ x + 256 * y → x < 256 → y < 256 → s < 2 → (s ≡ 0 → v ≡ x) → (s ≡ 1 → v ≡ y) → t / 256 ^ s % 256 ≡ v
@@ -141,10 +127,7 @@ module _ (units e : ℕ) (source : ℕ → ℤ) (from plane n : ℕ) (tile : Lis
   tile-column i b hi hb =
       let j = b / 2 in
       let hj : j < units = omega arith in
-      let at : units * i + j ≡ i * units + j = omega (arith, mul_comm units i) in
-      let c : (units * i + j) / units ≡ i = rw at (digits_div i hj) in
-      let d : (units * i + j) % units ≡ j = rw at (digits_mod i hj) in
-      let u : get_or tile (units * i + j) 0 ≡ column_unit e source from plane i j = held (units * i + j) (omega (arith, digits_lt {q = i} {m = n} hi hj, mul_comm units i, mul_comm units n)) ∙ rw (c, d) in
+      let u : get_or tile (units * i + j) 0 ≡ column_unit e source from plane i j = held (units * i + j) (omega (arith, digits_lt {q = i} {m = n} hi hj, mul_comm units i, mul_comm units n)) ∙ rw (column-of-unit units i j hj, unit-of-column units i j hj) in
       two_bytes (get_or tile (units * i + j) 0) (column_byte e source from plane i (2 * j)) (column_byte e source from plane i (2 * j + 1)) (column_byte e source from plane i b) b (b % 2)
       u (column_byte-lt e source from plane i (2 * j)) (column_byte-lt e source from plane i (2 * j + 1)) (mod-lt b (omega arith))
       (λ s. ap (column_byte e source from plane i) (omega arith))
@@ -158,19 +141,6 @@ columns-step dflt byte k i at stride before fit e s =
     s ∙ ap (bytes_set (byte i) k (at + stride * i)) e ∙ columns-more dflt byte k i at stride fit before ∙ ap (λ (n : ℕ). columns byte k n at stride before) (sym (add-one i))
 
 module _ (f : ℕ → ℕ) (p : ℕ) (buf : List ℕ) where
-  pub two-units-bytes : (a b : ℕ) → f 0 ≡ a % 256 → f 1 ≡ a / 256 % 256 → f 2 ≡ b % 256 → f 3 ≡ b / 256 % 256 → two_set a b p buf ≡ bytes_set f 4 p buf
-  unfolding bytes_set
-  two-units-bytes a b e0 e1 e2 e3 = rw (add-zero p, e0, e1, e2, e3)
-
-  pub units-bytes : (a b c d : ℕ) → f 0 ≡ a % 256 → f 1 ≡ a / 256 % 256 → f 2 ≡ b % 256 → f 3 ≡ b / 256 % 256 → f 4 ≡ c % 256 → f 5 ≡ c / 256 % 256 → f 6 ≡ d % 256 → f 7 ≡ d / 256 % 256
-      → two_set c d (p + 4) (two_set a b p buf) ≡ bytes_set f 8 p buf
-  unfolding bytes_set
-  units-bytes a b c d e0 e1 e2 e3 e4 e5 e6 e7 =
-      let p5 : p + 4 + 1 ≡ p + 5 = omega arith in
-      let p6 : p + 4 + 2 ≡ p + 6 = omega arith in
-      let p7 : p + 4 + 3 ≡ p + 7 = omega arith in
-      rw (add-zero p, p5, p6, p7, e0, e1, e2, e3, e4, e5, e6, e7)
-
   pub unit-bytes : (u : ℕ) → u ≡ f 0 + 256 * f 1 → f 0 < 256 → f 1 < 256 → set (set buf p (u % 256)) (p + 1) (u / 256) ≡ bytes_set f 2 p buf
   unfolding bytes_set
   unit-bytes u e h0 h1 =
@@ -182,23 +152,31 @@ module _ (f : ℕ → ℕ) (p : ℕ) (buf : List ℕ) where
   unfolding bytes_set
   byte-bytes v e = rw (add-zero p, e)
 
--- a tile's units, byte by byte
-module _ (tile : List ℕ) (i : ℕ) (p : ℕ) (buf : List ℕ) where
-  pub tile-bytes : (a b c d : ℕ) → a ≡ get_or tile (4 * i) 0 → b ≡ get_or tile (4 * i + 1) 0 → c ≡ get_or tile (4 * i + 2) 0 → d ≡ get_or tile (4 * i + 3) 0
-      → two_set c d (p + 4) (two_set a b p buf) ≡ bytes_set (tile_byte 4 tile i) 8 p buf
+-- unit j of column i of a tile, written behind those before it
+module _ (units : ℕ) (tile : List ℕ) (i : ℕ) where
+  low_byte : (j u : ℕ) → u ≡ get_or tile (units * i + j) 0 → u % 256 ≡ tile_byte units tile i (2 * j)
   unfolding tile_byte
-  tile-bytes a b c d ea eb ec ed =
-      let z : 4 * i + 0 ≡ 4 * i = omega arith in
-      let ez : get_or tile (4 * i + 0) 0 ≡ a = ap (λ (x : ℕ). get_or tile x 0) z ∙ sym ea in
-      units-bytes (tile_byte 4 tile i) p buf a b c d
-      (omega (arith, ez)) (omega (arith, ez)) (omega arith) (omega arith) (omega arith) (omega arith) (omega arith) (omega arith)
+  low_byte j u e =
+      let d : 2 * j / 2 ≡ j = omega arith in
+      let m : 2 * j % 2 ≡ 0 = omega arith in
+      rw (d, m, ← e) (omega arith)
 
-  pub tile-half : (a b : ℕ) → a ≡ get_or tile (2 * i) 0 → b ≡ get_or tile (2 * i + 1) 0 → two_set a b p buf ≡ bytes_set (tile_byte 2 tile i) 4 p buf
+  high_byte : (j u : ℕ) → u ≡ get_or tile (units * i + j) 0 → u < 65536 → u / 256 ≡ tile_byte units tile i (2 * j + 1)
   unfolding tile_byte
-  tile-half a b ea eb =
-      let z : 2 * i + 0 ≡ 2 * i = omega arith in
-      let ez : get_or tile (2 * i + 0) 0 ≡ a = ap (λ (x : ℕ). get_or tile x 0) z ∙ sym ea in
-      two-units-bytes (tile_byte 2 tile i) p buf a b (omega (arith, ez)) (omega (arith, ez)) (omega arith) (omega arith)
+  high_byte j u e h =
+      let d : (2 * j + 1) / 2 ≡ j = omega arith in
+      let m : (2 * j + 1) % 2 ≡ 1 = omega arith in
+      rw (d, m, ← e) (omega arith)
+
+  pub tile-unit-bytes : (j u p q : ℕ) {buf after : List ℕ} (before : List ℕ) → u ≡ get_or tile (units * i + j) 0 → u < 65536 → q ≡ p + 2 * j
+      → buf ≡ bytes_set (tile_byte units tile i) (2 * j) p before → after ≡ set (set buf q (u % 256)) (q + 1) (u / 256)
+      → after ≡ bytes_set (tile_byte units tile i) (2 * (j + 1)) p before
+  unfolding bytes_set
+  tile-unit-bytes j u p q before e h hq hb ha =
+      let two : 2 * (j + 1) ≡ suc (suc (2 * j)) = omega arith in
+      let q1 : q + 1 ≡ p + suc (2 * j) = omega arith in
+      let high : u / 256 ≡ tile_byte units tile i (suc (2 * j)) = high_byte j u e h ∙ ap (tile_byte units tile i) (add-one (2 * j)) in
+      rw two (ha ∙ rw (hb, q1, hq, low_byte j u e, high))
 
 -- the first byte of a column of elements of one byte
 pub first_byte : (source : ℕ → ℤ) (from plane i : ℕ) → column_byte 1 source from plane i 0 ≡ byte_of (source (from + i)) 0
@@ -235,6 +213,3 @@ pub beside-step : {A : Type 0} (dflt : A) (f g : ℕ → ℕ → A) (k n m at st
     → after ≡ columns f k (n + m) at stride before
 beside-step dflt f g k n m at stride q {buf} {after} before fit e hq hb ha =
     ha ∙ ap (λ (x : ℕ). columns g k m x stride buf) hq ∙ ap (columns g k m (at + stride * n) stride) hb ∙ columns-beside dflt f g k n m at stride fit before e
-
-pub tile_set-length : (l : List ℕ) (i a b c d : ℕ) → length (tile_set l i a b c d) ≡ length l
-tile_set-length l i a b c d = simp length-set refl

@@ -42,10 +42,6 @@ unfoldable pub bytes_set : {A : Type 0} → (ℕ → A) → (k p : ℕ) → List
 bytes_set f zero p buf = buf
 bytes_set f (suc k) p buf = set (bytes_set f k p buf) (p + k) (f k)
 
--- two units from p on
-abbrev pub two_set : (a b p : ℕ) → List ℕ → List ℕ
-two_set a b p buf = set (set (set (set buf p (a % 256)) (p + 1) (a / 256 % 256)) (p + 2) (b % 256)) (p + 3) (b / 256 % 256)
-
 -- ---- reading: the elements are the columns, of n elements each, `plane` apart, and the bytes the source
 
 -- the element of row r of column i: the e bytes behind those of the rows before
@@ -71,7 +67,3 @@ unit_row e tile j r i = unit_element e (get_or tile (4 * i + j) 0) r
 -- element r of column i of a tile
 unfoldable pub tile_element : ℕ → List ℕ → (r i : ℕ) → ℤ
 tile_element e tile r i = unit_element e (get_or tile (4 * i + r / (3 - e)) 0) (r % (3 - e))
-
--- the four units of column i of a tile set
-abbrev pub tile_set : List ℕ → (i a b c d : ℕ) → List ℕ
-tile_set l i a b c d = set (set (set (set l (4 * i) a) (4 * i + 1) b) (4 * i + 2) c) (4 * i + 3) d

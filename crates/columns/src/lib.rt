@@ -4,7 +4,7 @@
 
 // Rows of elements as columns of bytes: row r has `count` elements from element `from + r·plane` on; column i has the `rows` elements of `size`
 // bytes each from byte `at + i·stride` on.
-#[derive(Drop)]
+#[derive(Clone, Copy)]
 pub struct ColumnBlock {
     pub size: u32,
     pub rows: u32,

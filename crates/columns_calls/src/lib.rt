@@ -7,24 +7,23 @@ mod tiles;
 mod writing;
 
 ghost use Rattle.std.specs.Prelude.{◌≡◌};
-ghost use Rattle.columns.specs.Blocks.{fitting, block_written, block_read, cleared};
+ghost use Rattle.columns.specs.Blocks.{block_fits, block_written, block_read, cleared};
 
 use columns::ColumnBlock;
 
 // Whether a block's elements are among those given, and its columns, one behind another, in so many bytes.
-fn fits(
-    size: u32,
-    rows: u32,
-    count: u32,
-    from: usize,
-    plane: u32,
-    at: usize,
-    stride: u32,
-    given: usize,
-    len: usize,
-) -> bool
-    ensures { result ≡ fitting size rows count from plane at stride given len }
+fn fits(block: ColumnBlock, given: usize, len: usize) -> bool
+    ensures { result ≡ block_fits block given len }
 {
+    let ColumnBlock {
+        size,
+        rows,
+        count,
+        from,
+        plane,
+        at,
+        stride,
+    } = block;
     if (1 <= size) & (size <= 2) & (1 <= rows) & (1 <= count) & (from <= given) & (at <= len) {
         let deep = rows as usize * size as usize;
         let read = (rows - 1) as usize * plane as usize + count as usize;
@@ -38,20 +37,7 @@ fn fits(
 pub fn write(block: ColumnBlock, elements: &[i16], buffer: &mut [u8])
     ensures { buffer.new ≡ block_written block elements.now buffer.old }
 {
-    let given = elements.len();
-    let len = buffer.len();
-    let fit = fits(
-        block.size,
-        block.rows,
-        block.count,
-        block.from,
-        block.plane,
-        block.at,
-        block.stride,
-        given,
-        len,
-    );
-    if fit {
+    if fits(block, elements.len(), buffer.len()) {
         writing::write_strips(
             block.size,
             elements,
@@ -70,17 +56,7 @@ pub fn write(block: ColumnBlock, elements: &[i16], buffer: &mut [u8])
 pub fn read(block: ColumnBlock, buffer: &[u8], elements: &mut [i16])
     ensures { elements.new ≡ block_read block buffer.now elements.old }
 {
-    let fit = fits(
-        block.size,
-        block.rows,
-        block.count,
-        block.from,
-        block.plane,
-        block.at,
-        block.stride,
-        elements.len(),
-        buffer.len(),
-    );
+    let fit = fits(block, elements.len(), buffer.len());
     if fit & (block.count <= block.plane) {
         reading::read_strips(
             block.size,
@@ -101,13 +77,8 @@ pub fn clear(at: usize, count: usize, buffer: &mut [u8])
     ensures { buffer.new ≡ cleared at count buffer.old }
 {
     let len = buffer.len();
-    if len <= at {
-        return;
-    }
-    let end = if count < len - at { at + count } else { len };
-    let mut p = at;
-    while p < end {
-        buffer[p] = 0;
-        p += 1;
+    if at < len {
+        let end = at + count.min(len - at);
+        buffer[at..end].fill(0);
     }
 }

@@ -18,8 +18,7 @@ fn read_row(
     requires e_in_bounds { at + stride * count + e ≤ length buffer.now + stride }
     ensures { elements.new ≡ bytes_set (column_element e buffer.now at stride 0) count from elements.old }
 {
-    let mut i: usize = 0;
-    while i < count {
+    for i in 0..count {
         let p = at + stride * i;
         let x = if e == 1 {
             elements::from_byte(buffer[p])
@@ -27,7 +26,6 @@ fn read_row(
             elements::from_bytes(buffer[p], buffer[p + 1])
         };
         elements[from + i] = x;
-        i += 1;
     }
 }
 
@@ -53,11 +51,10 @@ fn read_some(
 {
     if 4 * (3 - e) <= rows {
         tiles::read_tile(buffer, at, stride, count, tile);
-        let step = if e == 1 { 2 * plane } else { plane };
-        tiles::split_unit(e, tile, 0, count, elements, from, plane);
-        tiles::split_unit(e, tile, 1, count, elements, from + step, plane);
-        tiles::split_unit(e, tile, 2, count, elements, from + 2 * step, plane);
-        tiles::split_unit(e, tile, 3, count, elements, from + 3 * step, plane);
+        let step = (3 - e) as usize * plane;
+        for j in 0..4 {
+            tiles::split_unit(e, tile, j, count, elements, from + j * step, plane);
+        }
         return 4 * (3 - e);
     }
     read_row(e, buffer, at, stride, count, elements, from);

@@ -19,13 +19,9 @@ fn write_unit(
     requires le_stride { (2 ≤ stride) × (at + stride * count + 2 ≤ length buffer.old + stride) }
     ensures { buffer.new ≡ columns (column_byte e (listed elements.now) from plane) 2 count at stride buffer.old }
 {
-    let mut i: usize = 0;
-    while i < count {
+    for i in 0..count {
         let u = tiles::unit(e, elements, from + i, plane);
-        let p = at + stride * i;
-        buffer[p] = (u % 256) as u8;
-        buffer[p + 1] = (u / 256) as u8;
-        i += 1;
+        tiles::put_unit(u, buffer, at + stride * i);
     }
 }
 
@@ -42,11 +38,8 @@ fn write_byte(
     requires le_stride { (1 ≤ stride) × (at + stride * count + 1 ≤ length buffer.old + stride) }
     ensures { buffer.new ≡ columns (column_byte 1 (listed elements.now) from 0) 1 count at stride buffer.old }
 {
-    let mut i: usize = 0;
-    while i < count {
-        let x = elements[from + i];
-        buffer[at + stride * i] = elements::low_byte(x);
-        i += 1;
+    for i in 0..count {
+        buffer[at + stride * i] = elements::low_byte(elements[from + i]);
     }
 }
 
@@ -71,13 +64,13 @@ fn write_some(
     ensures written { buffer.new ≡ rows_written e (listed elements.now) from plane result count at stride buffer.old }
 {
     if 4 * (3 - e) <= rows {
-        tiles::join(e, elements, from, plane, count, tile);
-        tiles::write_tile(tile, count, buffer, at, stride);
+        tiles::join::<4>(e, elements, from, plane, count, tile);
+        tiles::write_tile::<4>(tile, count, buffer, at, stride);
         return 4 * (3 - e);
     }
     if 2 * (3 - e) <= rows {
-        tiles::join_half(e, elements, from, plane, count, tile);
-        tiles::write_half(tile, count, buffer, at, stride);
+        tiles::join::<2>(e, elements, from, plane, count, tile);
+        tiles::write_tile::<2>(tile, count, buffer, at, stride);
         return 2 * (3 - e);
     }
     if 3 - e <= rows {

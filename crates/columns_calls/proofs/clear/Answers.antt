@@ -1,33 +1,23 @@
--- `columns_calls::clear` meets its contract. The loop's invariant: the bytes before p are cleared. Assumes nothing.
-use Prim.Native.Nat.{ℕ, ◌+◌, ◌-◌, ◌≤◌}
+-- `columns_calls::clear` meets its contract. Assumes nothing.
+use Prim.Native.Nat.{ℕ, ◌+◌, ◌-◌}
 use native.Mathlib.Omega.{arith}
-use mathlib.Core.Path.{◌≡◌, ap, ◌∙◌}
-use Rattle.columns.specs.Blocks.{cleared}
-use Rattle.columns.proofs.ClearLaws.{cleared-none, cleared-past, cleared_more, cleared-all}
+use mathlib.Core.Path.{◌≡◌, sym, ap, ◌∙◌}
+use mathlib.Core.List.{List, ◌++◌}
+use lib.ListN.{take, drop, replicate, length-drop}
+use Rattle.std.proofs.lemmas.List.{length-take}
+use Rattle.columns.proofs.ClearLaws.{cleared-past, cleared-filled}
 use Rattle.columns_calls.proofs.clear.Goals as goal
-use Rattle.columns_calls.proofs.clear.Goals.{then-count-len, else-count-len}
 
-pub returns-then-len-at : goal.returns-then-len-at
-returns-then-len-at c = let a = c.args in cleared-past a.at a.count a.buffer.now c.if-len-at.true
-
-pub loop-p-init : goal.loop-p-init
-loop-p-init c =
+pub returns-then-at-len : goal.returns-then-at-len
+returns-then-at-len c =
     let a = c.args in
-    let room : a.at ≤ c.if-count-len.end = elim c.if-count-len.branch [ then-count-len w ↦ omega arith | else-count-len w ↦ omega arith ] in
-    (omega arith, room, cleared-none a.at (a.at - a.at) a.buffer.now (omega arith))
+    let b = a.buffer.now in
+    let m = c.min.result in
+    let long : a.at + m - a.at ≡ m = omega arith in
+    let zeros : c.fill.new.self ≡ replicate m 0 = c.fill.ensures.after (λ y h. h) ∙ ap (λ (n : ℕ). replicate n 0) (simp (length-take, length-drop) (omega arith)) in
+    ap (λ (z : List ℕ). take a.at b ++ (z ++ drop (a.at + m - a.at) (drop a.at b))) zeros
+    ∙ ap (λ (k : ℕ). take a.at b ++ (replicate m 0 ++ drop k (drop a.at b))) long
+    ∙ cleared-filled a.at m a.count b c.if-at-len.true c.min.ensures
 
-pub loop-p-preserved : goal.loop-p-preserved
-loop-p-preserved c =
-    let a = c.args in
-    let p = c.loop-p.p in
-    let inside : c.if-count-len.end ≤ a.at + a.count = elim c.if-count-len.branch [ then-count-len w ↦ omega arith | else-count-len w ↦ omega arith ] in
-    (omega arith, omega arith, cleared_more a.at (p - a.at) p (p + 1 - a.at) a.buffer.now c.loop-p.invariant.2 (omega arith) (omega arith) (omega arith))
-
-pub returns : goal.returns
-returns c =
-    let a = c.args in
-    let stop : c.loop-p.p ≡ c.if-count-len.end = omega arith in
-    elim c.if-count-len.branch [
-      | then-count-len w ↦ c.loop-p.invariant.2 ∙ ap (λ (n : ℕ). cleared a.at n a.buffer.now) (omega arith)
-      | else-count-len w ↦ c.loop-p.invariant.2 ∙ cleared-all a.at (c.loop-p.p - a.at) a.count a.buffer.now (omega arith) (omega arith)
-    ]
+pub returns-else-at-len : goal.returns-else-at-len
+returns-else-at-len c = let a = c.args in cleared-past a.at a.count a.buffer.now c.if-at-len.false

@@ -12,6 +12,7 @@ use Rattle.columns.proofs.BlockLaws.{BlockFits, fitting-of, rows_end, columns-en
 use Rattle.columns_calls.proofs.read.Goals as goal
 
 pub read_strips-requires : goal.read_strips-requires
+unfolding block_fits
 read_strips-requires c =
     let fit : let a = c.args in BlockFits a.block (length a.elements.now) (length a.buffer.now) × (a.block.count ≤ a.block.plane) =
     let b = c.args.block in
@@ -26,6 +27,7 @@ read_strips-requires c =
     }
 
 pub returns-then-fit-block : goal.returns-then-fit-block
+unfolding block_fits
 returns-then-fit-block c =
     let fit : let a = c.args in BlockFits a.block (length a.elements.now) (length a.buffer.now) × (a.block.count ≤ a.block.plane) =
     let b = c.args.block in

@@ -7,8 +7,9 @@ use Rattle.columns.proofs.BlockLaws.{BlockFits, fitting-of, rows_end, columns-en
 use Rattle.columns_calls.proofs.write.Goals as goal
 
 pub write_strips-requires : goal.write_strips-requires
+unfolding block_fits
 write_strips-requires c =
-    let fit : let a = c.args in BlockFits a.block (length a.elements.now) (length a.buffer.now) = fitting-of (sym c.fits-fit.ensures ∙ c.if-fit.true) in
+    let fit : let a = c.args in BlockFits a.block (length a.elements.now) (length a.buffer.now) = fitting-of (sym c.fits.ensures ∙ c.if-fits.true) in
     let f = fit in
     record {
       le_e = (f.some, f.small, f.rows_some, f.count_some, omega (arith, f.deep));
@@ -16,13 +17,14 @@ write_strips-requires c =
       le_stride = (stride-some f, f.deep, columns-end f);
     }
 
-pub returns-then-fit : goal.returns-then-fit
-returns-then-fit c =
-    let fit : let a = c.args in BlockFits a.block (length a.elements.now) (length a.buffer.now) = fitting-of (sym c.fits-fit.ensures ∙ c.if-fit.true) in
+pub returns-then-fits : goal.returns-then-fits
+unfolding block_fits
+returns-then-fits c =
+    let fit : let a = c.args in BlockFits a.block (length a.elements.now) (length a.buffer.now) = fitting-of (sym c.fits.ensures ∙ c.if-fits.true) in
     let a = c.args in
     c.write_strips.ensures ∙ sym (block-written a.block a.elements.now a.buffer.now fit)
 
-pub returns-else-fit : goal.returns-else-fit
+pub returns-else-fits : goal.returns-else-fits
 unfolding block_fits
-returns-else-fit c = let a = c.args in
-    sym (block-kept a.block a.elements.now a.buffer.now (sym c.fits-fit.ensures ∙ c.if-fit.false))
+returns-else-fits c = let a = c.args in
+    sym (block-kept a.block a.elements.now a.buffer.now (sym c.fits.ensures ∙ c.if-fits.false))

@@ -14,7 +14,7 @@ use Rattle.columns_calls.proofs.reading.read_row.Goals as goal
 use Rattle.columns_calls.proofs.reading.read_row.Goals.{then-e-eq1, else-e-eq1}
 
 pub loop-i-init : goal.loop-i-init
-loop-i-init c = let a = c.args in (omega arith, bytes-start (column_element a.e a.buffer.now a.at a.stride 0) a.from a.elements.now)
+loop-i-init c = let a = c.args in bytes-start (column_element a.e a.buffer.now a.at a.stride 0) a.from a.elements.now
 
 pub loop-i-preserved : goal.loop-i-preserved
 loop-i-preserved c =
@@ -29,8 +29,6 @@ loop-i-preserved c =
           let two : a.e ≡ 2 = omega arith in
           w.x-is ∙ to_z-of_z {w = w16} (sfits_of w.from_bytes-x.type_inv) ∙ w.from_bytes-x.ensures ∙ sym (element_at-two a.buffer.now p)
           ∙ ap (λ (k : ℕ). element_at k a.buffer.now p) (sym two)
-    ] in (
-      omega arith,
-      bytes-step (column_element a.e a.buffer.now a.at a.stride 0) c.loop-i.i a.from _ a.elements.now c.loop-i.invariant.1
-          (is_element ∙ sym (first-row a.e a.buffer.now a.at a.stride c.loop-i.i)),
-    )
+    ] in
+    bytes-step (column_element a.e a.buffer.now a.at a.stride 0) c.loop-i.i a.from _ a.elements.now c.loop-i.invariant
+    (is_element ∙ sym (first-row a.e a.buffer.now a.at a.stride c.loop-i.i))

@@ -1,12 +1,7 @@
 -- `columns_calls::reading::read_row` meets its contract. The loop's invariant: the first i elements are read. Assumes nothing.
-use Prim.Native.Nat.{◌-◌, ◌≤◌}
 use mathlib.Core.Path.{◌≡◌}
 use Rattle.columns.specs.Columns.{bytes_set, column_element}
 use Rattle.columns_calls.proofs.reading.read_row.Given as goal
 
 abbrev pub invariant-loop-i : goal.invariant-loop-i
-invariant-loop-i l =
-    (l.i ≤ l.count) × (l.elements ≡ bytes_set (column_element l.e l.buffer l.at l.stride 0) l.i l.from l.initial.elements)
-
-abbrev pub decreases-loop-i : goal.decreases-loop-i
-decreases-loop-i l = l.count - l.i
+invariant-loop-i l = l.elements ≡ bytes_set (column_element l.e l.buffer l.at l.stride 0) l.i l.from l.initial.elements

@@ -1,13 +1,16 @@
--- `columns_calls::tiles::join` meets its contract. The loop's invariant: the first 4 i units of the tile are those of the columns. Assumes nothing.
-use Prim.Native.Nat.{ℕ, ◌-◌, ◌*◌, ◌/◌, ◌%◌, ◌<◌, ◌≤◌}
+-- `columns_calls::tiles::join` meets its contract: the units before unit j of column i are those of the columns. Assumes nothing.
+use Prim.Native.Nat.{ℕ, ◌+◌, ◌*◌, ◌/◌, ◌%◌, ◌<◌}
 use mathlib.Core.Path.{◌≡◌}
 use lib.ListN.{length, get_or}
 use Rattle.columns.specs.Columns.{column_unit, listed}
 use Rattle.columns_calls.proofs.tiles.join.Given as goal
 
 abbrev pub invariant-loop-i : goal.invariant-loop-i
-invariant-loop-i l =
-    (l.i ≤ l.count) × (length l.tile ≡ 256) × ((m : ℕ) → m < 4 * l.i → get_or l.tile m 0 ≡ column_unit l.e (listed l.elements) l.from l.plane (m / 4) (m % 4))
+invariant-loop-i g l =
+    (length l.tile ≡ 256)
+    × ((m : ℕ) → m < g.row.UNITS * l.i → get_or l.tile m 0 ≡ column_unit l.e (listed l.elements) l.from l.plane (m / g.row.UNITS) (m % g.row.UNITS))
 
-abbrev pub decreases-loop-i : goal.decreases-loop-i
-decreases-loop-i l = l.count - l.i
+abbrev pub invariant-loop-j : goal.invariant-loop-j
+invariant-loop-j g l =
+    (length l.tile ≡ 256)
+    × ((m : ℕ) → m < g.row.UNITS * l.i + l.j → get_or l.tile m 0 ≡ column_unit l.e (listed l.elements) l.from l.plane (m / g.row.UNITS) (m % g.row.UNITS))

@@ -1,12 +1,8 @@
 -- `columns_calls::tiles::split_unit` meets its contract. The loop's invariant: the unit of the first i columns is split. Assumes nothing.
-use Prim.Native.Nat.{◌-◌, ◌≤◌}
+use Prim.Native.Nat.{◌-◌}
 use mathlib.Core.Path.{◌≡◌}
 use Rattle.columns.specs.Columns.{columns, unit_row}
 use Rattle.columns_calls.proofs.tiles.split_unit.Given as goal
 
 abbrev pub invariant-loop-i : goal.invariant-loop-i
-invariant-loop-i l =
-    (l.i ≤ l.count) × (l.elements ≡ columns (unit_row l.e l.tile l.j) l.i (3 - l.e) l.from l.plane l.initial.elements)
-
-abbrev pub decreases-loop-i : goal.decreases-loop-i
-decreases-loop-i l = l.count - l.i
+invariant-loop-i l = l.elements ≡ columns (unit_row l.e l.tile l.j) l.i (3 - l.e) l.from l.plane l.initial.elements

@@ -1,26 +1,29 @@
--- `columns_calls::tiles::write_tile` meets its contract. The loop's invariant: the units of the first i columns are written. Assumes nothing.
+-- `columns_calls::tiles::write_tile` meets its contract: the units of the first i columns are written, then the first j of column i. Assumes nothing.
 use Prim.Native.Nat.{ℕ, ◌+◌, ◌*◌}
 use native.Mathlib.Omega.{arith}
-use mathlib.Core.Path.{refl, ap, ◌∙◌}
-use mathlib.Core.List.{List}
-use lib.ListN.{get_or}
-use Rattle.columns.specs.Columns.{tile_byte, two_set}
+use mathlib.Core.Path.{◌≡◌, refl, ap, ◌∙◌}
+use Rattle.columns.specs.Columns.{bytes_set, tile_byte}
 use Rattle.columns.proofs.ColumnLaws.{columns-none}
-use Rattle.columns.proofs.UnitLaws.{columns-step, tile-bytes}
+use Rattle.columns.proofs.UnitLaws.{columns-step, tile-unit-bytes}
+use Rattle.columns.proofs.ReadLaws.{bytes-start}
 use Rattle.columns_calls.proofs.tiles.write_tile.Goals as goal
 
 pub loop-i-init : goal.loop-i-init
-loop-i-init c = let a = c.args in (omega arith, columns-none 0 (tile_byte 4 a.tile.now) 8 a.at a.stride a.buffer.now c.requires.1)
+loop-i-init g c = let a = c.args in columns-none 0 (tile_byte g.row.UNITS a.tile.now) (2 * g.row.UNITS) a.at a.stride a.buffer.now c.requires.1
+
+pub loop-j-init : goal.loop-j-init
+loop-j-init g c = let a = c.args in bytes-start (tile_byte g.row.UNITS a.tile.now c.loop-i.i) (a.at + a.stride * c.loop-i.i) c.loop-i.buffer
+
+pub loop-j-preserved : goal.loop-j-preserved
+loop-j-preserved g c =
+    let a = c.args in
+    let p = a.at + a.stride * c.loop-i.i in
+    tile-unit-bytes g.row.UNITS a.tile.now c.loop-i.i c.loop-j.j _ p (p + 2 * c.loop-j.j) c.loop-i.buffer refl (omega arith) refl c.loop-j.invariant c.put_unit.ensures
 
 pub loop-i-preserved : goal.loop-i-preserved
-loop-i-preserved c =
+loop-i-preserved g c =
     let a = c.args in
-    let t = a.tile.now in
     let i = c.loop-i.i in
-    let p = a.at + a.stride * i in (
-      omega arith,
-      columns-step 0 (tile_byte 4 t) 8 i a.at a.stride a.buffer.now c.requires.1 c.loop-i.invariant.1
-          (c.write_two-in-loop-i.ensures
-          ∙ ap (λ (b : List ℕ). two_set (get_or t (4 * i + 2) 0) (get_or t (4 * i + 3) 0) (p + 4) b) c.write_two.ensures
-          ∙ tile-bytes t i p c.loop-i.buffer _ _ _ _ refl refl refl refl),
-    )
+    let stop : c.loop-j.j ≡ g.row.UNITS = omega arith in
+    columns-step 0 (tile_byte g.row.UNITS a.tile.now) (2 * g.row.UNITS) i a.at a.stride a.buffer.now c.requires.1 c.loop-i.invariant
+    (c.loop-j.invariant ∙ ap (λ (n : ℕ). bytes_set (tile_byte g.row.UNITS a.tile.now i) (2 * n) (a.at + a.stride * i) c.loop-i.buffer) stop)

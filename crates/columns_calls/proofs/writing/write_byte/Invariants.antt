@@ -1,11 +1,7 @@
 -- `columns_calls::writing::write_byte` meets its contract. The loop's invariant: the byte of the first i columns is written. Assumes nothing.
-use Prim.Native.Nat.{◌-◌, ◌≤◌}
 use mathlib.Core.Path.{◌≡◌}
 use Rattle.columns.specs.Columns.{columns, column_byte, listed}
 use Rattle.columns_calls.proofs.writing.write_byte.Given as goal
 
 abbrev pub invariant-loop-i : goal.invariant-loop-i
-invariant-loop-i l = (l.i ≤ l.count) × (l.buffer ≡ columns (column_byte 1 (listed l.elements) l.from 0) 1 l.i l.at l.stride l.initial.buffer)
-
-abbrev pub decreases-loop-i : goal.decreases-loop-i
-decreases-loop-i l = l.count - l.i
+invariant-loop-i l = l.buffer ≡ columns (column_byte 1 (listed l.elements) l.from 0) 1 l.i l.at l.stride l.initial.buffer

@@ -32,10 +32,10 @@ returns-then-e-rows-2-clause-written c =
     let k = 2 * (3 - a.e) in
     let bytes : 4 ≤ a.rows * a.e = omega (arith, rows-le k a.rows a.e c.if-e-rows-2.true, half-bytes a.e c.requires.le_e.0 c.requires.le_e.1) in
     let src : ℕ → ℤ = listed a.elements.now in
-    let tile = c.join_half.new.tile in
-    c.write_half.ensures
+    let tile = c.join-then-e-rows-2.new.tile in
+    c.write_tile-then-e-rows-2.ensures
     ∙ columns-ext 0 (tile_byte 2 tile) (column_byte a.e src a.from a.plane) 4 a.count a.at a.stride a.buffer.now (omega (arith, bytes, c.requires.e_bound.0))
-    (tile-column 2 a.e src a.from a.plane a.count tile c.join_half.ensures.joined)
+    (tile-column 2 a.e src a.from a.plane a.count tile c.join-then-e-rows-2.ensures.joined)
     ∙ written_as a.e src a.from a.plane a.count a.at a.stride k 4 a.buffer.now (half-bytes a.e c.requires.le_e.0 c.requires.le_e.1)
 
 pub returns-then-e-rows-3-clause-written : goal.returns-then-e-rows-3-clause-written
