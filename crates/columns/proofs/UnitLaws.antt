@@ -13,7 +13,7 @@ use native.Mathlib.Nat.{add-zero, mul-suc, mul-le-mul_left, add-mul, mul_assoc, 
 use mathlib.Core.Path.{◌≡◌, refl, sym, ap, subst, ◌∙◌}
 use mathlib.Core.Logic.{◌⊎◌, inl, inr, ⊎_elim}
 use mathlib.Core.List.{List}
-use lib.ListN.{length, get_or, set, length-set}
+use lib.ListN.{length, get_or, set}
 use lib.Arith.{digits_div, digits_mod, digits_lt}
 use lib.Seq.{get_or-set_same, get_or-set_other}
 use lib.IntN.{ℤ}

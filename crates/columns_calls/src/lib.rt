@@ -2,14 +2,16 @@
 // are four units of two bytes, gathered in a tile of at most 64 columns, then written.
 #![tactic(auto)]
 
+mod place;
 mod reading;
 mod tiles;
 mod writing;
 
-ghost use Rattle.std.specs.Prelude.{◌≡◌};
+ghost use Rattle.std.specs.Prelude.{◌≡◌, ◌≤◌};
 ghost use Rattle.columns.specs.Blocks.{block_fits, block_written, block_read, cleared};
 
 use columns::ColumnBlock;
+use place::{ElementSize, Place};
 
 // Whether a block's elements are among those given, and its columns, one behind another, in so many bytes.
 fn fits(block: ColumnBlock, given: usize, len: usize) -> bool
@@ -33,22 +35,27 @@ fn fits(block: ColumnBlock, given: usize, len: usize) -> bool
     false
 }
 
+// Where a block lies.
+fn place_of(block: ColumnBlock) -> Place
+    requires { (1 ≤ block.size) × (block.size ≤ 2) }
+    ensures { (result.size.bytes ≡ block.size) × (result.from ≡ block.from) × (result.plane ≡ block.plane) × (result.at ≡ block.at) × (result.stride ≡ block.stride) }
+{
+    Place {
+        size: ElementSize { bytes: block.size },
+        from: block.from,
+        plane: block.plane as usize,
+        at: block.at,
+        stride: block.stride as usize,
+    }
+}
+
 // Writes the columns of a block; a block that does not fit writes nothing.
 pub fn write(block: ColumnBlock, elements: &[i16], buffer: &mut [u8])
     ensures { buffer.new ≡ block_written block elements.now buffer.old }
 {
     if fits(block, elements.len(), buffer.len()) {
-        writing::write_strips(
-            block.size,
-            elements,
-            block.from,
-            block.plane as usize,
-            block.rows,
-            block.count as usize,
-            buffer,
-            block.at,
-            block.stride as usize,
-        );
+        let count = block.count as usize;
+        writing::write_strips(place_of(block), elements, block.rows, count, buffer);
     }
 }
 
@@ -58,17 +65,8 @@ pub fn read(block: ColumnBlock, buffer: &[u8], elements: &mut [i16])
 {
     let fit = fits(block, elements.len(), buffer.len());
     if fit & (block.count <= block.plane) {
-        reading::read_strips(
-            block.size,
-            buffer,
-            block.at,
-            block.stride as usize,
-            block.rows,
-            block.count as usize,
-            elements,
-            block.from,
-            block.plane as usize,
-        );
+        let count = block.count as usize;
+        reading::read_strips(place_of(block), buffer, block.rows, count, elements);
     }
 }
 

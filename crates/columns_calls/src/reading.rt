@@ -2,150 +2,118 @@
 ghost use Rattle.std.specs.Prelude.{◌≡◌, ◌+◌, ◌*◌, ◌≤◌, length};
 ghost use Rattle.columns.specs.Columns.{bytes_set, column_element, rows_read};
 
+use crate::place::{ElementSize, Place};
 use crate::tiles;
 
 // One row of elements, one from each column.
-fn read_row(
-    e: u32,
-    buffer: &[u8],
-    at: usize,
-    stride: usize,
-    count: usize,
-    elements: &mut [i16],
-    from: usize,
-)
-    requires le_e { (1 ≤ e) × (e ≤ 2) × (from + count ≤ length elements.old) }
-    requires e_in_bounds { at + stride * count + e ≤ length buffer.now + stride }
-    ensures { elements.new ≡ bytes_set (column_element e buffer.now at stride 0) count from elements.old }
+fn read_row(place: Place, buffer: &[u8], count: usize, elements: &mut [i16])
+    requires row_in { place.from + count ≤ length elements.old }
+    requires columns_in { place.at + place.stride * count + place.size.bytes ≤ length buffer.now + place.stride }
+    ensures { elements.new ≡ bytes_set (column_element place.size.bytes buffer.now place.at place.stride 0) count place.from elements.old }
 {
     for i in 0..count {
-        let p = at + stride * i;
-        let x = if e == 1 {
+        let p = place.at + place.stride * i;
+        let x = if place.size.bytes == 1 {
             elements::from_byte(buffer[p])
         } else {
             elements::from_bytes(buffer[p], buffer[p + 1])
         };
-        elements[from + i] = x;
+        elements[place.from + i] = x;
     }
 }
 
 // The next rows: as many as fill eight bytes of a column, or else one; gives how many.
 fn read_some(
-    e: u32,
+    place: Place,
     buffer: &[u8],
-    at: usize,
-    stride: usize,
     rows: u32,
     count: usize,
     tile: &mut [u16; 256],
     elements: &mut [i16],
-    from: usize,
-    plane: usize,
 ) -> u32
-    requires le_e { (1 ≤ e) × (e ≤ 2) × (1 ≤ rows) × (count ≤ 64) × (length tile.old ≡ 256) × (count ≤ plane) }
-    requires count_in_bounds { from + rows * plane + count ≤ length elements.old + plane }
-    requires e_in_bounds { at + stride * count + rows * e ≤ length buffer.now + stride }
+    requires sizes { (1 ≤ rows) × (count ≤ 64) × (length tile.old ≡ 256) × (count ≤ place.plane) }
+    requires rows_in { place.from + rows * place.plane + count ≤ length elements.old + place.plane }
+    requires columns_in { place.at + place.stride * count + rows * place.size.bytes ≤ length buffer.now + place.stride }
     ensures kept { length tile.new ≡ 256 }
     ensures some { (1 ≤ result) × (result ≤ rows) }
-    ensures read { elements.new ≡ rows_read e buffer.now at stride result count from plane elements.old }
+    ensures read { elements.new ≡ rows_read place.size.bytes buffer.now place.at place.stride result count place.from place.plane elements.old }
 {
-    if 4 * (3 - e) <= rows {
-        tiles::read_tile(buffer, at, stride, count, tile);
-        let step = (3 - e) as usize * plane;
+    let unit = 3 - place.size.bytes;
+    if 4 * unit <= rows {
+        tiles::read_tile(place, buffer, count, tile);
+        let step = unit as usize * place.plane;
         for j in 0..4 {
-            tiles::split_unit(e, tile, j, count, elements, from + j * step, plane);
+            let from = place.from + j * step;
+            tiles::split_unit(place.size, tile, j, count, elements, from, place.plane);
         }
-        return 4 * (3 - e);
+        return 4 * unit;
     }
-    read_row(e, buffer, at, stride, count, elements, from);
+    read_row(place, buffer, count, elements);
     1
 }
 
-// Rows of elements read from at most 64 columns that begin `stride` bytes apart, to `plane` apart.
-fn read_rows(
-    e: u32,
-    buffer: &[u8],
-    at: usize,
-    stride: usize,
-    rows: u32,
-    count: usize,
-    elements: &mut [i16],
-    from: usize,
-    plane: usize,
-)
-    requires le_e { (1 ≤ e) × (e ≤ 2) × (1 ≤ count) × (count ≤ 64) × (rows * e ≤ 4294967295) × (count ≤ plane) }
-    requires count_in_bounds { from + rows * plane + count ≤ length elements.old + plane }
-    requires e_in_bounds { at + stride * count + rows * e ≤ length buffer.now + stride }
-    ensures { elements.new ≡ rows_read e buffer.now at stride rows count from plane elements.old }
+// Rows of elements read from at most 64 columns.
+fn read_rows(place: Place, buffer: &[u8], rows: u32, count: usize, elements: &mut [i16])
+    requires sizes { (1 ≤ count) × (count ≤ 64) × (rows * place.size.bytes ≤ 4294967295) × (count ≤ place.plane) }
+    requires rows_in { place.from + rows * place.plane + count ≤ length elements.old + place.plane }
+    requires columns_in { place.at + place.stride * count + rows * place.size.bytes ≤ length buffer.now + place.stride }
+    ensures { elements.new ≡ rows_read place.size.bytes buffer.now place.at place.stride rows count place.from place.plane elements.old }
 {
     let mut tile = [0u16; 256];
     let mut r: u32 = 0;
+    // A while: it goes on by as many rows as read_some read.
     while r < rows {
-        let got = read_some(
-            e,
-            buffer,
-            at + (r * e) as usize,
-            stride,
-            rows - r,
-            count,
-            &mut tile,
-            elements,
-            from + r as usize * plane,
-            plane,
-        );
+        let below = Place {
+            from: place.from + r as usize * place.plane,
+            at: place.at + (r * place.size.bytes) as usize,
+            ..place
+        };
+        let got = read_some(below, buffer, rows - r, count, &mut tile, elements);
         r += got;
     }
 }
 
 // Strips of 64 columns, all rows of a strip before the next strip.
 pub(crate) fn read_strips(
-    e: u32,
+    place: Place,
     buffer: &[u8],
-    at: usize,
-    stride: usize,
     rows: u32,
     count: usize,
     elements: &mut [i16],
-    from: usize,
-    plane: usize,
 )
-    requires le_e { (1 ≤ e) × (e ≤ 2) × (1 ≤ rows) × (1 ≤ count) × (rows * e ≤ 4294967295) × (count ≤ plane) }
-    requires count_in_bounds { from + rows * plane + count ≤ length elements.old + plane }
-    requires e_bound { (rows * e ≤ stride) × (at + stride * count + rows * e ≤ length buffer.now + stride) }
-    ensures { elements.new ≡ rows_read e buffer.now at stride rows count from plane elements.old }
+    requires sizes { (1 ≤ rows) × (1 ≤ count) × (rows * place.size.bytes ≤ 4294967295) × (count ≤ place.plane) }
+    requires rows_in { place.from + rows * place.plane + count ≤ length elements.old + place.plane }
+    requires columns_in { (rows * place.size.bytes ≤ place.stride) × (place.at + place.stride * count + rows * place.size.bytes ≤ length buffer.now + place.stride) }
+    ensures { elements.new ≡ rows_read place.size.bytes buffer.now place.at place.stride rows count place.from place.plane elements.old }
 {
-    if stride == 1 {
-        read_row(1, buffer, at, 1, count, elements, from);
+    if place.stride == 1 {
+        let line = Place {
+            size: ElementSize { bytes: 1 },
+            stride: 1,
+            ..place
+        };
+        read_row(line, buffer, count, elements);
         return;
     }
-    if (stride == 2) & (e == 2) {
-        read_row(2, buffer, at, 2, count, elements, from);
+    if (place.stride == 2) & (place.size.bytes == 2) {
+        let line = Place {
+            size: ElementSize { bytes: 2 },
+            stride: 2,
+            ..place
+        };
+        read_row(line, buffer, count, elements);
         return;
     }
     let mut done: usize = 0;
-    while 64 < count - done {
-        read_rows(
-            e,
-            buffer,
-            at + stride * done,
-            stride,
-            rows,
-            64,
-            elements,
-            from + done,
-            plane,
-        );
-        done += 64;
+    // A while: it goes on by a strip, not by one.
+    while done < count {
+        let columns = (count - done).min(64);
+        let behind = Place {
+            from: place.from + done,
+            at: place.at + place.stride * done,
+            ..place
+        };
+        read_rows(behind, buffer, rows, columns, elements);
+        done += columns;
     }
-    read_rows(
-        e,
-        buffer,
-        at + stride * done,
-        stride,
-        rows,
-        count - done,
-        elements,
-        from + done,
-        plane,
-    );
 }

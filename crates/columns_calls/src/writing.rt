@@ -2,117 +2,84 @@
 ghost use Rattle.std.specs.Prelude.{◌≡◌, ◌+◌, ◌-◌, ◌*◌, ◌≤◌, length};
 ghost use Rattle.columns.specs.Columns.{columns, column_byte, listed, rows_written};
 
+use crate::place::{ElementSize, Place};
 use crate::tiles;
 
 // One unit of each column.
-fn write_unit(
-    e: u32,
-    elements: &[i16],
-    from: usize,
-    plane: usize,
-    count: usize,
-    buffer: &mut [u8],
-    at: usize,
-    stride: usize,
-)
-    requires le_e { (1 ≤ e) × (e ≤ 2) × (from + (3 - e) * plane + count ≤ length elements.now + plane) }
-    requires le_stride { (2 ≤ stride) × (at + stride * count + 2 ≤ length buffer.old + stride) }
-    ensures { buffer.new ≡ columns (column_byte e (listed elements.now) from plane) 2 count at stride buffer.old }
+fn write_unit(place: Place, elements: &[i16], count: usize, buffer: &mut [u8])
+    requires rows_in { place.from + (3 - place.size.bytes) * place.plane + count ≤ length elements.now + place.plane }
+    requires columns_in { (2 ≤ place.stride) × (place.at + place.stride * count + 2 ≤ length buffer.old + place.stride) }
+    ensures { buffer.new ≡ columns (column_byte place.size.bytes (listed elements.now) place.from place.plane) 2 count place.at place.stride buffer.old }
 {
     for i in 0..count {
-        let u = tiles::unit(e, elements, from + i, plane);
-        tiles::put_unit(u, buffer, at + stride * i);
+        let u = tiles::unit(place.size, elements, place.from + i, place.plane);
+        tiles::put_unit(u, buffer, place.at + place.stride * i);
     }
 }
 
 // One byte of each column.
-fn write_byte(
-    elements: &[i16],
-    from: usize,
-    count: usize,
-    buffer: &mut [u8],
-    at: usize,
-    stride: usize,
-)
-    requires count_in_bounds { from + count ≤ length elements.now }
-    requires le_stride { (1 ≤ stride) × (at + stride * count + 1 ≤ length buffer.old + stride) }
-    ensures { buffer.new ≡ columns (column_byte 1 (listed elements.now) from 0) 1 count at stride buffer.old }
+fn write_byte(place: Place, elements: &[i16], count: usize, buffer: &mut [u8])
+    requires rows_in { place.from + count ≤ length elements.now }
+    requires columns_in { (1 ≤ place.stride) × (place.at + place.stride * count + 1 ≤ length buffer.old + place.stride) }
+    ensures { buffer.new ≡ columns (column_byte 1 (listed elements.now) place.from 0) 1 count place.at place.stride buffer.old }
 {
     for i in 0..count {
-        buffer[at + stride * i] = elements::low_byte(elements[from + i]);
+        buffer[place.at + place.stride * i] = elements::low_byte(elements[place.from + i]);
     }
 }
 
 // The next rows: as many as fill eight bytes of a column, or else four, or two, or one; gives how many.
 fn write_some(
-    e: u32,
+    place: Place,
     elements: &[i16],
-    from: usize,
-    plane: usize,
     rows: u32,
     count: usize,
     tile: &mut [u16; 256],
     buffer: &mut [u8],
-    at: usize,
-    stride: usize,
 ) -> u32
-    requires le_e { (1 ≤ e) × (e ≤ 2) × (1 ≤ rows) × (4 ≤ rows * e → count ≤ 128) × (8 ≤ rows * e → count ≤ 64) × (length tile.old ≡ 256) }
-    requires count_in_bounds { from + rows * plane + count ≤ length elements.now + plane }
-    requires e_bound { (rows * e ≤ stride) × (at + stride * count + rows * e ≤ length buffer.old + stride) }
+    requires sizes { (1 ≤ rows) × (4 ≤ rows * place.size.bytes → count ≤ 128) × (8 ≤ rows * place.size.bytes → count ≤ 64) × (length tile.old ≡ 256) }
+    requires rows_in { place.from + rows * place.plane + count ≤ length elements.now + place.plane }
+    requires columns_in { (rows * place.size.bytes ≤ place.stride) × (place.at + place.stride * count + rows * place.size.bytes ≤ length buffer.old + place.stride) }
     ensures kept { length tile.new ≡ 256 }
     ensures some { (1 ≤ result) × (result ≤ rows) }
-    ensures written { buffer.new ≡ rows_written e (listed elements.now) from plane result count at stride buffer.old }
+    ensures written { buffer.new ≡ rows_written place.size.bytes (listed elements.now) place.from place.plane result count place.at place.stride buffer.old }
 {
-    if 4 * (3 - e) <= rows {
-        tiles::join::<4>(e, elements, from, plane, count, tile);
-        tiles::write_tile::<4>(tile, count, buffer, at, stride);
-        return 4 * (3 - e);
+    let unit = 3 - place.size.bytes;
+    if 4 * unit <= rows {
+        tiles::join::<4>(place, elements, count, tile);
+        tiles::write_tile::<4>(place, tile, count, buffer);
+        return 4 * unit;
     }
-    if 2 * (3 - e) <= rows {
-        tiles::join::<2>(e, elements, from, plane, count, tile);
-        tiles::write_tile::<2>(tile, count, buffer, at, stride);
-        return 2 * (3 - e);
+    if 2 * unit <= rows {
+        tiles::join::<2>(place, elements, count, tile);
+        tiles::write_tile::<2>(place, tile, count, buffer);
+        return 2 * unit;
     }
-    if 3 - e <= rows {
-        write_unit(e, elements, from, plane, count, buffer, at, stride);
-        return 3 - e;
+    if unit <= rows {
+        write_unit(place, elements, count, buffer);
+        return unit;
     }
-    write_byte(elements, from, count, buffer, at, stride);
+    write_byte(place, elements, count, buffer);
     1
 }
 
-// Rows of elements that lie `plane` apart, written in columns that begin `stride` bytes apart, as many as a strip has.
-fn write_rows(
-    e: u32,
-    elements: &[i16],
-    from: usize,
-    plane: usize,
-    rows: u32,
-    count: usize,
-    buffer: &mut [u8],
-    at: usize,
-    stride: usize,
-)
-    requires le_e { (1 ≤ e) × (e ≤ 2) × (1 ≤ count) × (4 ≤ rows * e → count ≤ 128) × (8 ≤ rows * e → count ≤ 64) × (rows * e ≤ 4294967295) }
-    requires count_in_bounds { from + rows * plane + count ≤ length elements.now + plane }
-    requires le_stride { (1 ≤ stride) × (rows * e ≤ stride) × (at + stride * count + rows * e ≤ length buffer.old + stride) }
-    ensures { buffer.new ≡ rows_written e (listed elements.now) from plane rows count at stride buffer.old }
+// Rows of elements written in as many columns as a strip has.
+fn write_rows(place: Place, elements: &[i16], rows: u32, count: usize, buffer: &mut [u8])
+    requires sizes { (1 ≤ count) × (4 ≤ rows * place.size.bytes → count ≤ 128) × (8 ≤ rows * place.size.bytes → count ≤ 64) × (rows * place.size.bytes ≤ 4294967295) }
+    requires rows_in { place.from + rows * place.plane + count ≤ length elements.now + place.plane }
+    requires columns_in { (1 ≤ place.stride) × (rows * place.size.bytes ≤ place.stride) × (place.at + place.stride * count + rows * place.size.bytes ≤ length buffer.old + place.stride) }
+    ensures { buffer.new ≡ rows_written place.size.bytes (listed elements.now) place.from place.plane rows count place.at place.stride buffer.old }
 {
     let mut tile = [0u16; 256];
     let mut r: u32 = 0;
+    // A while: it goes on by as many rows as write_some wrote.
     while r < rows {
-        let k = write_some(
-            e,
-            elements,
-            from + r as usize * plane,
-            plane,
-            rows - r,
-            count,
-            &mut tile,
-            buffer,
-            at + (r * e) as usize,
-            stride,
-        );
+        let below = Place {
+            from: place.from + r as usize * place.plane,
+            at: place.at + (r * place.size.bytes) as usize,
+            ..place
+        };
+        let k = write_some(below, elements, rows - r, count, &mut tile, buffer);
         r += k;
     }
 }
@@ -120,63 +87,49 @@ fn write_rows(
 // Strips of columns, all rows of a strip before the next strip; elements that lie one behind another in one pass. A strip has as many columns as
 // a tile has room for: 64 of a band, or 128 of half a band; fewer bytes need no tile.
 pub(crate) fn write_strips(
-    e: u32,
+    place: Place,
     elements: &[i16],
-    from: usize,
-    plane: usize,
     rows: u32,
     count: usize,
     buffer: &mut [u8],
-    at: usize,
-    stride: usize,
 )
-    requires le_e { (1 ≤ e) × (e ≤ 2) × (1 ≤ rows) × (1 ≤ count) × (rows * e ≤ 4294967295) }
-    requires count_in_bounds { from + rows * plane + count ≤ length elements.now + plane }
-    requires le_stride { (1 ≤ stride) × (rows * e ≤ stride) × (at + stride * count + rows * e ≤ length buffer.old + stride) }
-    ensures { buffer.new ≡ rows_written e (listed elements.now) from plane rows count at stride buffer.old }
+    requires sizes { (1 ≤ rows) × (1 ≤ count) × (rows * place.size.bytes ≤ 4294967295) }
+    requires rows_in { place.from + rows * place.plane + count ≤ length elements.now + place.plane }
+    requires columns_in { (1 ≤ place.stride) × (rows * place.size.bytes ≤ place.stride) × (place.at + place.stride * count + rows * place.size.bytes ≤ length buffer.old + place.stride) }
+    ensures { buffer.new ≡ rows_written place.size.bytes (listed elements.now) place.from place.plane rows count place.at place.stride buffer.old }
 {
-    if stride == 1 {
-        write_byte(elements, from, count, buffer, at, 1);
+    if place.stride == 1 {
+        let line = Place { stride: 1, ..place };
+        write_byte(line, elements, count, buffer);
         return;
     }
-    if (stride == 2) & (e == 2) {
-        write_unit(2, elements, from, plane, count, buffer, at, 2);
+    if (place.stride == 2) & (place.size.bytes == 2) {
+        let line = Place {
+            size: ElementSize { bytes: 2 },
+            stride: 2,
+            ..place
+        };
+        write_unit(line, elements, count, buffer);
         return;
     }
-    let bytes = rows * e;
-    let strip: usize = if bytes < 4 {
-        4294967295
+    let bytes = rows * place.size.bytes;
+    let strip = if bytes < 4 {
+        count
     } else if bytes < 8 {
         128
     } else {
         64
     };
-    let mut source = from;
     let mut done: usize = 0;
-    while strip < count - done {
-        write_rows(
-            e,
-            elements,
-            source,
-            plane,
-            rows,
-            strip,
-            buffer,
-            at + stride * done,
-            stride,
-        );
-        source += strip;
-        done += strip;
+    // A while: it goes on by a strip, not by one.
+    while done < count {
+        let columns = strip.min(count - done);
+        let behind = Place {
+            from: place.from + done,
+            at: place.at + place.stride * done,
+            ..place
+        };
+        write_rows(behind, elements, rows, columns, buffer);
+        done += columns;
     }
-    write_rows(
-        e,
-        elements,
-        source,
-        plane,
-        rows,
-        count - done,
-        buffer,
-        at + stride * done,
-        stride,
-    );
 }

@@ -11,6 +11,13 @@ use Rattle.columns.specs.Blocks.{block_fits}
 use Rattle.columns.proofs.BlockLaws.{BlockFits, fitting-of, rows_end, columns-end, block-read, block-unread}
 use Rattle.columns_calls.proofs.read.Goals as goal
 
+pub place_of-requires : goal.place_of-requires
+unfolding block_fits
+place_of-requires c =
+    let t = and-true c.fits-fit.result (leb c.args.block.count c.args.block.plane) c.if-fit-block.true in
+    let fit : let a = c.args in BlockFits a.block (length a.elements.now) (length a.buffer.now) = fitting-of (sym c.fits-fit.ensures ∙ t.0) in
+    (fit.some, fit.small)
+
 pub read_strips-requires : goal.read_strips-requires
 unfolding block_fits
 read_strips-requires c =
@@ -20,10 +27,11 @@ read_strips-requires c =
     (fitting-of (sym c.fits-fit.ensures ∙ t.0), leb-true b.count b.plane t.1) in
     let w = fit in
     let f = w.0 in
+    let e = c.place_of.ensures in
     record {
-      le_e = (f.some, f.small, f.rows_some, f.count_some, omega (arith, f.deep), w.1);
-      count_in_bounds = rows_end f;
-      e_bound = (f.deep, columns-end f);
+      sizes = rw (e.0, e.2) (f.rows_some, f.count_some, omega (arith, f.deep), w.1);
+      rows_in = rw (e.1, e.2) (rows_end f);
+      columns_in = rw (e.0, e.3, e.4) (f.deep, columns-end f);
     }
 
 pub returns-then-fit-block : goal.returns-then-fit-block
@@ -34,7 +42,8 @@ returns-then-fit-block c =
     let t = and-true c.fits-fit.result (leb b.count b.plane) c.if-fit-block.true in
     (fitting-of (sym c.fits-fit.ensures ∙ t.0), leb-true b.count b.plane t.1) in
     let a = c.args in
-    c.read_strips.ensures ∙ sym (block-read a.block a.buffer.now a.elements.now fit.0 fit.1)
+    let e = c.place_of.ensures in
+    rw (e.0, e.1, e.2, e.3, e.4) at c.read_strips.ensures ∙ sym (block-read a.block a.buffer.now a.elements.now fit.0 fit.1)
 
 pub returns-else-fit-block : goal.returns-else-fit-block
 unfolding block_fits

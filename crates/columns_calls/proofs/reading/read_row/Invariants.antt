@@ -4,4 +4,4 @@ use Rattle.columns.specs.Columns.{bytes_set, column_element}
 use Rattle.columns_calls.proofs.reading.read_row.Given as goal
 
 abbrev pub invariant-loop-i : goal.invariant-loop-i
-invariant-loop-i l = l.elements ≡ bytes_set (column_element l.e l.buffer l.at l.stride 0) l.i l.from l.initial.elements
+invariant-loop-i l = l.elements ≡ bytes_set (column_element l.place.size.bytes l.buffer l.place.at l.place.stride 0) l.i l.place.from l.initial.elements

@@ -9,14 +9,14 @@ use Rattle.columns_calls.proofs.reading.read_rows.Goals as goal
 pub loop-r-init : goal.loop-r-init
 loop-r-init c =
     let a = c.args in
-    (omega arith, refl, read-start a.e a.buffer.now a.at a.stride a.count a.from a.plane c.requires.le_e.5 a.elements.now)
+    (omega arith, refl, read-start a.place.size.bytes a.buffer.now a.place.at a.place.stride a.count a.place.from a.place.plane c.requires.sizes.3 a.elements.now)
 
-pub read_some-got-requires-clause-count_in_bounds : goal.read_some-got-requires-clause-count_in_bounds
-read_some-got-requires-clause-count_in_bounds c =
+pub read_some-got-requires-clause-rows_in : goal.read_some-got-requires-clause-rows_in
+read_some-got-requires-clause-rows_in c =
     let a = c.args in
     let long : length c.loop-r.elements ≡ length a.elements.now =
-    ap length c.loop-r.invariant.2 ∙ read_length a.e a.buffer.now a.at a.stride c.loop-r.r a.from a.plane a.count a.elements.now in
-    let left = rows_left c.loop-r.r a.rows a.plane c.loop-r.invariant.0 in
+    ap length c.loop-r.invariant.2 ∙ read_length a.place.size.bytes a.buffer.now a.place.at a.place.stride c.loop-r.r a.place.from a.place.plane a.count a.elements.now in
+    let left = rows_left c.loop-r.r a.rows a.place.plane c.loop-r.invariant.0 in
     omega (arith, left, long)
 
 pub loop-r-preserved : goal.loop-r-preserved
@@ -24,6 +24,6 @@ loop-r-preserved c =
     let a = c.args in (
       omega arith,
       c.read_some-got.ensures.kept,
-      read-rows a.e a.buffer.now a.at a.stride a.count a.from a.plane c.requires.le_e.5 c.loop-r.r c.read_some-got.result a.elements.now c.loop-r.invariant.2
+      read-rows a.place.size.bytes a.buffer.now a.place.at a.place.stride a.count a.place.from a.place.plane c.requires.sizes.3 c.loop-r.r c.read_some-got.result a.elements.now c.loop-r.invariant.2
           c.read_some-got.ensures.read,
     )

@@ -7,7 +7,7 @@ use Rattle.columns_calls.proofs.reading.read_rows.Given as goal
 
 abbrev pub invariant-loop-r : goal.invariant-loop-r
 invariant-loop-r l =
-    (l.r ≤ l.rows) × (length l.tile ≡ 256) × (l.elements ≡ rows_read l.e l.buffer l.at l.stride l.r l.count l.from l.plane l.initial.elements)
+    (l.r ≤ l.rows) × (length l.tile ≡ 256) × (l.elements ≡ rows_read l.place.size.bytes l.buffer l.place.at l.place.stride l.r l.count l.place.from l.place.plane l.initial.elements)
 
 abbrev pub decreases-loop-r : goal.decreases-loop-r
 decreases-loop-r l = l.rows - l.r

@@ -14,8 +14,8 @@ use Rattle.columns_calls.proofs.tiles.join.Goals as goal
 pub overflow_mul-step : goal.overflow_mul-step
 overflow_mul-step g c =
     let a = c.args in
-    let once = mul-le-mul_right {m = 1} {n = g.row.UNITS} ((3 - a.e) * a.plane) c.requires.some in
-    ⊎_elim (λ h. omega (arith, once, h)) (λ h. omega (arith, h)) (pair-rows a.e a.plane c.requires.le_e.0 c.requires.le_e.1)
+    let once = mul-le-mul_right {m = 1} {n = g.row.UNITS} ((3 - a.place.size.bytes) * a.place.plane) c.requires.sizes.0 in
+    ⊎_elim (λ h. omega (arith, once, h)) (λ h. omega (arith, h)) (pair-rows a.place.size.bytes a.place.plane a.place.size.one_or_two.0 a.place.size.one_or_two.1)
 
 pub loop-j-preserved : goal.loop-j-preserved
 loop-j-preserved g c =
@@ -25,7 +25,7 @@ loop-j-preserved g c =
     let j = c.loop-j.j in
     let room : g.row.UNITS * i + j < 256 = grind (arith, common_steps) in (
       simp length-set c.loop-j.invariant.0,
-      held_more (λ (x : ℕ) (k : ℕ) (v : ℕ). v ≡ column_unit a.e src a.from a.plane x k) g.row.UNITS c.loop-j.tile i j c.unit.result (omega arith)
+      held_more (λ (x : ℕ) (k : ℕ) (v : ℕ). v ≡ column_unit a.place.size.bytes src a.place.from a.place.plane x k) g.row.UNITS c.loop-j.tile i j c.unit.result (omega arith)
           (omega (arith, room, c.loop-j.invariant.0)) c.loop-j.invariant.1
-          (c.unit.ensures ∙ unit-at a.e c.requires.le_e.0 c.requires.le_e.1 src a.from a.plane i j (a.from + i + j * ((3 - a.e) * a.plane)) (omega arith)),
+          (c.unit.ensures ∙ unit-at a.place.size.bytes a.place.size.one_or_two.0 a.place.size.one_or_two.1 src a.place.from a.place.plane i j (a.place.from + i + j * ((3 - a.place.size.bytes) * a.place.plane)) (omega arith)),
     )

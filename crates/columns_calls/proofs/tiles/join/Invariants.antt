@@ -8,9 +8,9 @@ use Rattle.columns_calls.proofs.tiles.join.Given as goal
 abbrev pub invariant-loop-i : goal.invariant-loop-i
 invariant-loop-i g l =
     (length l.tile ≡ 256)
-    × ((m : ℕ) → m < g.row.UNITS * l.i → get_or l.tile m 0 ≡ column_unit l.e (listed l.elements) l.from l.plane (m / g.row.UNITS) (m % g.row.UNITS))
+    × ((m : ℕ) → m < g.row.UNITS * l.i → get_or l.tile m 0 ≡ column_unit l.place.size.bytes (listed l.elements) l.place.from l.place.plane (m / g.row.UNITS) (m % g.row.UNITS))
 
 abbrev pub invariant-loop-j : goal.invariant-loop-j
 invariant-loop-j g l =
     (length l.tile ≡ 256)
-    × ((m : ℕ) → m < g.row.UNITS * l.i + l.j → get_or l.tile m 0 ≡ column_unit l.e (listed l.elements) l.from l.plane (m / g.row.UNITS) (m % g.row.UNITS))
+    × ((m : ℕ) → m < g.row.UNITS * l.i + l.j → get_or l.tile m 0 ≡ column_unit l.place.size.bytes (listed l.elements) l.place.from l.place.plane (m / g.row.UNITS) (m % g.row.UNITS))

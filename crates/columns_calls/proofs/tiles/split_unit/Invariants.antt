@@ -5,4 +5,4 @@ use Rattle.columns.specs.Columns.{columns, unit_row}
 use Rattle.columns_calls.proofs.tiles.split_unit.Given as goal
 
 abbrev pub invariant-loop-i : goal.invariant-loop-i
-invariant-loop-i l = l.elements ≡ columns (unit_row l.e l.tile l.j) l.i (3 - l.e) l.from l.plane l.initial.elements
+invariant-loop-i l = l.elements ≡ columns (unit_row l.size.bytes l.tile l.j) l.i (3 - l.size.bytes) l.from l.plane l.initial.elements

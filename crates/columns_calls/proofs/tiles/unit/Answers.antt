@@ -16,21 +16,21 @@ use Rattle.columns_calls.proofs.tiles.unit.Goals as goal
 low_byte : (z : ℤ) (w : ℕ) → w ≡ byte_of z 0 + 256 * byte_of z 1 → w % 256 ≡ byte_of z 0
 low_byte z w h = omega (arith, byte_of-lt z 0)
 
-pub returns-then-e-eq1 : goal.returns-then-e-eq1
+pub returns-then-size-eq1 : goal.returns-then-size-eq1
 unfolding listed
-returns-then-e-eq1 c =
+returns-then-size-eq1 c =
     let a = c.args in
     let src : ℕ → ℤ = listed a.elements.now in
     let x = low_byte (src a.at) c.word.result (c.word.ensures ∙ ap (λ (z : ℤ). byte_of z 0 + 256 * byte_of z 1) (to_z-of_z {w = w16} (sfits_of (omega arith)))) in
-    let y = low_byte (src (a.at + a.plane)) c.word-then-e-eq1.result (c.word-then-e-eq1.ensures ∙ ap (λ (z : ℤ). byte_of z 0 + 256 * byte_of z 1) (to_z-of_z {w = w16} (sfits_of (omega arith)))) in
-    omega (arith, x, y, unit-one src a.at a.plane, ap (λ (k : ℕ). column_unit k src a.at a.plane 0 0) c.if-e-eq1.true)
+    let y = low_byte (src (a.at + a.plane)) c.word-then-size-eq1.result (c.word-then-size-eq1.ensures ∙ ap (λ (z : ℤ). byte_of z 0 + 256 * byte_of z 1) (to_z-of_z {w = w16} (sfits_of (omega arith)))) in
+    omega (arith, x, y, unit-one src a.at a.plane, ap (λ (k : ℕ). column_unit k src a.at a.plane 0 0) c.if-size-eq1.true)
 
 pub returns : goal.returns
 unfolding listed
 returns c =
     let a = c.args in
     let src : ℕ → ℤ = listed a.elements.now in
-    let two : 2 ≡ a.e = omega (arith, c.requires.0, c.requires.1) in
+    let two : 2 ≡ a.size.bytes = omega (arith, a.size.one_or_two.0, a.size.one_or_two.1) in
     c.word-2.ensures
     ∙ ap (λ (z : ℤ). byte_of z 0 + 256 * byte_of z 1) (to_z-of_z {w = w16} (sfits_of (omega arith)))
     ∙ sym (unit-two src a.at a.plane)

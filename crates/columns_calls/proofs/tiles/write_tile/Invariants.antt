@@ -5,7 +5,7 @@ use Rattle.columns.specs.Columns.{columns, tile_byte, bytes_set}
 use Rattle.columns_calls.proofs.tiles.write_tile.Given as goal
 
 abbrev pub invariant-loop-i : goal.invariant-loop-i
-invariant-loop-i g l = l.buffer ≡ columns (tile_byte g.row.UNITS l.tile) (2 * g.row.UNITS) l.i l.at l.stride l.initial.buffer
+invariant-loop-i g l = l.buffer ≡ columns (tile_byte g.row.UNITS l.tile) (2 * g.row.UNITS) l.i l.place.at l.place.stride l.initial.buffer
 
 abbrev pub invariant-loop-j : goal.invariant-loop-j
-invariant-loop-j g l = l.buffer ≡ bytes_set (tile_byte g.row.UNITS l.tile l.i) (2 * l.j) (l.at + l.stride * l.i) l.initial.buffer
+invariant-loop-j g l = l.buffer ≡ bytes_set (tile_byte g.row.UNITS l.tile l.i) (2 * l.j) (l.place.at + l.place.stride * l.i) l.initial.buffer

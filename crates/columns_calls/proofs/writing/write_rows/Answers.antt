@@ -12,23 +12,23 @@ loop-r-init c =
     let a = c.args in (
       omega arith,
       refl,
-      columns-empty 0 (column_byte a.e (listed a.elements.now) a.from a.plane) a.count a.at a.stride a.buffer.now
-          ∙ written_as a.e (listed a.elements.now) a.from a.plane a.count a.at a.stride 0 0 a.buffer.now (omega arith),
+      columns-empty 0 (column_byte a.place.size.bytes (listed a.elements.now) a.place.from a.place.plane) a.count a.place.at a.place.stride a.buffer.now
+          ∙ written_as a.place.size.bytes (listed a.elements.now) a.place.from a.place.plane a.count a.place.at a.place.stride 0 0 a.buffer.now (omega arith),
     )
 
-pub write_some-k-requires-clause-count_in_bounds : goal.write_some-k-requires-clause-count_in_bounds
-write_some-k-requires-clause-count_in_bounds c =
+pub write_some-k-requires-clause-rows_in : goal.write_some-k-requires-clause-rows_in
+write_some-k-requires-clause-rows_in c =
     let a = c.args in
-    let left = rows_left c.loop-r.r a.rows a.plane c.loop-r.invariant.0 in
+    let left = rows_left c.loop-r.r a.rows a.place.plane c.loop-r.invariant.0 in
     omega (arith, left)
 
 pub loop-r-preserved : goal.loop-r-preserved
 loop-r-preserved c =
     let a = c.args in
-    let left = rows_left c.loop-r.r a.rows a.e c.loop-r.invariant.0 in (
+    let left = rows_left c.loop-r.r a.rows a.place.size.bytes c.loop-r.invariant.0 in (
       omega arith,
       c.write_some-k.ensures.kept,
-      written-rows a.e (listed a.elements.now) a.from a.plane a.count a.at a.stride c.requires.le_e.0 c.loop-r.r c.write_some-k.result a.buffer.now
-          (omega (arith, c.requires.le_stride.1, left, rows-le c.write_some-k.result (a.rows - c.loop-r.r) a.e c.write_some-k.ensures.some.1)) c.loop-r.invariant.2
+      written-rows a.place.size.bytes (listed a.elements.now) a.place.from a.place.plane a.count a.place.at a.place.stride a.place.size.one_or_two.0 c.loop-r.r c.write_some-k.result a.buffer.now
+          (omega (arith, c.requires.columns_in.1, left, rows-le c.write_some-k.result (a.rows - c.loop-r.r) a.place.size.bytes c.write_some-k.ensures.some.1)) c.loop-r.invariant.2
           c.write_some-k.ensures.written,
     )

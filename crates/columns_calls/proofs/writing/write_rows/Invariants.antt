@@ -7,7 +7,7 @@ use Rattle.columns_calls.proofs.writing.write_rows.Given as goal
 
 abbrev pub invariant-loop-r : goal.invariant-loop-r
 invariant-loop-r l =
-    (l.r ≤ l.rows) × (length l.tile ≡ 256) × (l.buffer ≡ rows_written l.e (listed l.elements) l.from l.plane l.r l.count l.at l.stride l.initial.buffer)
+    (l.r ≤ l.rows) × (length l.tile ≡ 256) × (l.buffer ≡ rows_written l.place.size.bytes (listed l.elements) l.place.from l.place.plane l.r l.count l.place.at l.place.stride l.initial.buffer)
 
 abbrev pub decreases-loop-r : goal.decreases-loop-r
 decreases-loop-r l = l.rows - l.r
