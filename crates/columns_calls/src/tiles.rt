@@ -33,12 +33,8 @@ pub(crate) fn join<const UNITS: usize>(
     let step = (3 - place.size.bytes) as usize * place.plane;
     for i in 0..count {
         for j in 0..UNITS {
-            tile[UNITS * i + j] = unit(
-                place.size,
-                elements,
-                place.from + i + j * step,
-                place.plane,
-            );
+            let at = place.from + i + j * step;
+            tile[UNITS * i + j] = unit(place.size, elements, at, place.plane);
         }
     }
 }
@@ -65,7 +61,8 @@ pub(crate) fn write_tile<const UNITS: usize>(
     for i in 0..count {
         for j in 0..UNITS {
             let u = tile[UNITS * i + j];
-            put_unit(u, buffer, place.at + place.stride * i + 2 * j);
+            let p = place.at + place.stride * i + 2 * j;
+            put_unit(u, buffer, p);
         }
     }
 }
