@@ -52,7 +52,8 @@ fn read_some(
     1
 }
 
-// Rows of elements read from at most 64 columns.
+// Rows of elements read from at most 64 columns. A function of its own in the built code too: inlined, its loops lack registers.
+#[inline(never)]
 fn read_rows(place: Place, buffer: &[u8], rows: u32, count: usize, elements: &mut [i16])
     requires sizes { (1 ≤ count) × (count ≤ 64) × (rows * place.size.bytes ≤ 4294967295) × (count ≤ place.plane) }
     requires rows_in { place.from + rows * place.plane + count ≤ length elements.old + place.plane }

@@ -63,7 +63,8 @@ fn write_some(
     1
 }
 
-// Rows of elements written in as many columns as a strip has.
+// Rows of elements written in as many columns as a strip has. A function of its own in the built code too: inlined, its loops lack registers.
+#[inline(never)]
 fn write_rows(place: Place, elements: &[i16], rows: u32, count: usize, buffer: &mut [u8])
     requires sizes { (1 ≤ count) × (4 ≤ rows * place.size.bytes → count ≤ 128) × (8 ≤ rows * place.size.bytes → count ≤ 64) × (rows * place.size.bytes ≤ 4294967295) }
     requires rows_in { place.from + rows * place.plane + count ≤ length elements.now + place.plane }
