@@ -9,10 +9,9 @@ use mathlib.Core.List.{List}
 use lib.ListN.{length}
 use lib.IntN.{ℤ}
 use borrow.Author.Tests.{leb-true, ltb-true, eqb-true}
-use Rattle.refusal.specs.declared.Answer.{Answer}
-use Rattle.refusal.specs.declared.Answer.TheVariants.{Accepted, Refused}
-use Rattle.refusal.specs.declared.Refusal.{Refusal}
-use Rattle.refusal.specs.Checks.{in_order}
+use Rattle.std.specs.Prelude.{Err}
+use Rattle.refusal.specs.declared.Fault.{Fault}
+use Rattle.refusal.specs.Checks.{in_order, Answer, Accepted}
 use Rattle.refusal.proofs.CheckLaws.{Held, in_order-all, require_at-held, in_order-front, in_order-back, in_order-passed, in_order-refused, leaves-done, leaves-before}
 use Rattle.elements.specs.Values.{value_checks}
 use Rattle.weights.specs.declared.WeightLayout.{WeightLayout}
@@ -55,11 +54,11 @@ module _ (q : WeightLayout) (raw : List ℤ) (before : List ℕ) where
   abbrev Pack : Answer → List ℕ → Type 0
   Pack answer after = (answer ≡ pack_answer q raw (length before)) × (after ≡ pack_buffer q raw before)
 
-  by-refusal : {r : Refusal} {i : ℕ} → pack_answer q raw (length before) ≡ Refused r i → Pack (Refused r i) before
+  by-refusal : {f : Fault} → pack_answer q raw (length before) ≡ Err f → Pack (Err f) before
   unfolding pack_buffer
   by-refusal e = (sym e, sym (leaves-before (packed q raw before) before e))
 
-  pub pack-refused : {r : Refusal} {i : ℕ} → in_order (weight_checks q (length raw) (length before)) ≡ Refused r i → Pack (Refused r i) before
+  pub pack-refused : {f : Fault} → in_order (weight_checks q (length raw) (length before)) ≡ Err f → Pack (Err f) before
   pack-refused e = by-refusal (unfold pack_answer in in_order-refused (weight_checks q (length raw) (length before)) (value_checks q.precision raw) e)
 
   module _ (passed : in_order (weight_checks q (length raw) (length before)) ≡ Accepted) where
@@ -67,7 +66,7 @@ module _ (q : WeightLayout) (raw : List ℤ) (before : List ℕ) where
     unfolding pack_answer
     to_values = in_order-passed (weight_checks q (length raw) (length before)) (value_checks q.precision raw) passed
 
-    pub pack-outside : {r : Refusal} {i : ℕ} → in_order (value_checks q.precision raw) ≡ Refused r i → Pack (Refused r i) before
+    pub pack-outside : {f : Fault} → in_order (value_checks q.precision raw) ≡ Err f → Pack (Err f) before
     pack-outside e = by-refusal (to_values ∙ e)
 
     pub pack-valid : in_order (value_checks q.precision raw) ≡ Accepted → Pack Accepted (packed q raw before)
@@ -78,7 +77,7 @@ module _ (q : WeightLayout) (buffer : List ℕ) (before : List ℤ) where
   abbrev Unpack : Answer → List ℤ → Type 0
   Unpack answer after = (answer ≡ unpack_answer q (length before) (length buffer)) × (after ≡ unpack_elements q buffer before)
 
-  pub unpack-refused : {r : Refusal} {i : ℕ} → in_order (weight_checks q (length before) (length buffer)) ≡ Refused r i → Unpack (Refused r i) before
+  pub unpack-refused : {f : Fault} → in_order (weight_checks q (length before) (length buffer)) ≡ Err f → Unpack (Err f) before
   unfolding unpack_answer unpack_elements
   unpack-refused e = (sym e, sym (leaves-before (unpacked q buffer) before e))
 

@@ -8,8 +8,8 @@ use mathlib.Core.Logic.{◌⊎◌}
 use mathlib.Core.List.{List}
 use lib.ListN.{length, get_or}
 use lib.IntN.{ℤ, pos}
-use Rattle.refusal.specs.declared.Answer.TheVariants.{Accepted}
-use Rattle.refusal.specs.declared.Quantity.TheVariants.{Is}
+use Rattle.std.specs.Prelude.{Ok}
+use Rattle.refusal.specs.Checks.{Accepted}
 use Rattle.elements.specs.Bytes.{byte_of}
 use Rattle.elements.specs.Values.{SixteenBit}
 use Rattle.weights.specs.declared.WeightLayout.{WeightLayout}
@@ -29,10 +29,10 @@ module _ (q : WeightLayout) (raw : List ℤ) (before : List ℕ) (accepted : pac
   pub element-inside : (k c r s : ℕ) → Element q k c r s → element_position q k c r s + size_of q ≤ length before
   element-inside = pack.element-inside q raw before accepted
 
-  pub position-given : (k c r s : ℕ) → Element q k c r s → position_quantity q k c r s ≡ Is (element_position q k c r s)
+  pub position-given : (k c r s : ℕ) → Element q k c r s → position_quantity q k c r s ≡ Ok (element_position q k c r s)
   position-given = pack.position-given q raw before accepted
 
-  pub counts-given : (count_quantity q ≡ Is (length raw)) × (extent_quantity q ≡ Is (surface_bytes q))
+  pub counts-given : (count_quantity q ≡ Ok (length raw)) × (extent_quantity q ≡ Ok (surface_bytes q))
   counts-given = pack.counts-given q raw before accepted
 
   pub element-written : (k c r s b : ℕ) → Element q k c r s → b < size_of q

@@ -6,10 +6,9 @@ use mathlib.Core.List.{List, [], ◌∷◌}
 use lib.IntN.{ℤ, pos, negsuc}
 use lib.ListN.{replicate}
 use Rattle.refusal.specs.declared.Refusal.TheVariants.{Size, Precision, Int8Range, Fp16Nan, Bounds}
-use Rattle.refusal.specs.declared.Answer.TheVariants.{Refused}
-use Rattle.refusal.specs.declared.Quantity.TheVariants.{Is, Refused as NotGiven}
+use Rattle.std.specs.Prelude.{Ok, Err}
 use Rattle.refusal.specs.Codes.{answer_code}
-use Rattle.refusal.specs.Checks.{require_at, in_order, leaves, result}
+use Rattle.refusal.specs.Checks.{require_at, in_order, leaves, given, Refused, refused_at}
 use Rattle.refusal.specs.Sizes.{size_valid}
 use Rattle.elements.specs.Bytes.{element_bytes, byte_of, word_at, signed, element_at}
 use Rattle.elements.specs.Lists.{tabulate_from, tabulate}
@@ -34,19 +33,19 @@ abbrev packing : WeightLayout → List ℤ → ℕ → ℕ
 packing q raw len = answer_code (pack_answer q raw len)
 
 pub record Computed : Type 0 where
-  pub positions : position_quantity small 1 64 0 1 ∷ position_quantity small 2 5 0 0 ∷ position_quantity groups 16 0 0 0 ∷ [] ≡ Is 388 ∷ Is 133 ∷ Is 32 ∷ []
-  pub counts : count_quantity small ∷ count_quantity groups ∷ [] ≡ Is 390 ∷ Is 17 ∷ []
-  pub extents : extent_quantity small ∷ extent_quantity groups ∷ [] ≡ Is 512 ∷ Is 128 ∷ []
+  pub positions : position_quantity small 1 64 0 1 ∷ position_quantity small 2 5 0 0 ∷ position_quantity groups 16 0 0 0 ∷ [] ≡ Ok 388 ∷ Ok 133 ∷ Ok 32 ∷ []
+  pub counts : count_quantity small ∷ count_quantity groups ∷ [] ≡ Ok 390 ∷ Ok 17 ∷ []
+  pub extents : extent_quantity small ∷ extent_quantity groups ∷ [] ≡ Ok 512 ∷ Ok 128 ∷ []
   -- 9: each index one past its last
   pub outside : position_quantity small 3 64 0 1 ∷ position_quantity small 2 65 0 1 ∷ position_quantity small 2 64 1 1 ∷ position_quantity small 2 64 0 2 ∷ []
-      ≡ NotGiven Bounds 0 ∷ NotGiven Bounds 0 ∷ NotGiven Bounds 0 ∷ NotGiven Bounds 0 ∷ []
-  pub last : position_quantity small 2 64 0 1 ≡ Is 389
+      ≡ Err (refused_at 0 Bounds) ∷ Err (refused_at 0 Bounds) ∷ Err (refused_at 0 Bounds) ∷ Err (refused_at 0 Bounds) ∷ []
+  pub last : position_quantity small 2 64 0 1 ≡ Ok 389
   -- a position, two at once: 1 and 2, 2 and 9; 1 and 9
   pub positions_double : position_quantity (weights 0 65 1 2 3) 0 0 0 0 ∷ position_quantity (weights 3 65 1 2 3) 3 0 0 0 ∷ position_quantity (weights 3 8193 1 2 0) 3 0 0 0 ∷ []
-      ≡ NotGiven Size 0 ∷ NotGiven Precision 0 ∷ NotGiven Size 0 ∷ []
+      ≡ Err (refused_at 0 Size) ∷ Err (refused_at 0 Precision) ∷ Err (refused_at 0 Size) ∷ []
   -- the counts: 1, 2, and both at once
-  pub counts_refused : count_quantity (weights 3 65 33 2 0) ∷ count_quantity (weights 3 65 1 2 3) ∷ count_quantity (weights 3 65 1 0 3) ∷ [] ≡ NotGiven Size 0 ∷ NotGiven Precision 0 ∷ NotGiven Size 0 ∷ []
-  pub extents_refused : extent_quantity (weights 3 65 33 2 0) ∷ extent_quantity (weights 3 65 1 2 3) ∷ extent_quantity (weights 3 65 1 0 3) ∷ [] ≡ NotGiven Size 0 ∷ NotGiven Precision 0 ∷ NotGiven Size 0 ∷ []
+  pub counts_refused : count_quantity (weights 3 65 33 2 0) ∷ count_quantity (weights 3 65 1 2 3) ∷ count_quantity (weights 3 65 1 0 3) ∷ [] ≡ Err (refused_at 0 Size) ∷ Err (refused_at 0 Precision) ∷ Err (refused_at 0 Size) ∷ []
+  pub extents_refused : extent_quantity (weights 3 65 33 2 0) ∷ extent_quantity (weights 3 65 1 2 3) ∷ extent_quantity (weights 3 65 1 0 3) ∷ [] ≡ Err (refused_at 0 Size) ∷ Err (refused_at 0 Precision) ∷ Err (refused_at 0 Size) ∷ []
   -- packing, two at once: 1 and 2, 2 and 6, 6 and 5, 5 and 7; 7 alone; a buffer of the surface is valid
   pub packing_double : packing (weights 0 1 1 1 3) [] 0 ∷ packing (weights 1 1 1 1 3) [] 0 ∷ packing (weights 1 1 1 1 0) [] 127 ∷ packing (weights 1 1 1 1 0) (pos 200 ∷ []) 127 ∷ [] ≡ 1 ∷ 2 ∷ 6 ∷ 5 ∷ []
   pub value : pack_answer (weights 1 1 1 2 0) (pos 7 ∷ pos 200 ∷ []) 128 ≡ Refused Int8Range 1
@@ -61,7 +60,7 @@ pub record Computed : Type 0 where
   pub unpacking_double : answer_code (unpack_answer (weights 0 1 1 1 3) 0 0) ∷ answer_code (unpack_answer (weights 1 1 1 1 3) 0 0) ∷ answer_code (unpack_answer (weights 1 1 1 1 0) 0 127) ∷ [] ≡ 1 ∷ 2 ∷ 6 ∷ []
 
 pub computed : Computed
-unfolding require_at in_order leaves result size_valid element_bytes byte_of word_at signed element_at tabulate_from tabulate is_nan value_check value_checks_from value_checks group_size element_count group_kernels block_channels offset_number element_number element_position surface_bytes number_at sizes_valid weight_checks element_inside element_checks unpacked pack_answer unpack_answer unpack_elements count_quantity extent_quantity position_quantity
+unfolding require_at in_order leaves given size_valid element_bytes byte_of word_at signed element_at tabulate_from tabulate is_nan value_check value_checks_from value_checks group_size element_count group_kernels block_channels offset_number element_number element_position surface_bytes number_at sizes_valid weight_checks element_inside element_checks unpacked pack_answer unpack_answer unpack_elements count_quantity extent_quantity position_quantity
 computed =
     record {
       positions = refl;

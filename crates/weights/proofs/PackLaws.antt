@@ -8,10 +8,9 @@ use mathlib.Core.Logic.{◌⊎◌, inl, inr}
 use mathlib.Core.List.{List}
 use lib.ListN.{length, get_or}
 use lib.IntN.{ℤ, pos}
-use Rattle.refusal.specs.declared.Answer.TheVariants.{Accepted}
-use Rattle.refusal.specs.declared.Quantity.TheVariants.{Is}
-use Rattle.refusal.specs.Checks.{in_order}
-use Rattle.refusal.proofs.CheckLaws.{in_order-front, leaves-done, result-given}
+use Rattle.std.specs.Prelude.{Ok}
+use Rattle.refusal.specs.Checks.{in_order, Accepted}
+use Rattle.refusal.proofs.CheckLaws.{in_order-front, leaves-done, given-accepted}
 use Rattle.elements.specs.Bytes.{byte_of}
 use Rattle.elements.specs.Values.{SixteenBit, value_checks}
 use Rattle.weights.specs.declared.WeightLayout.{WeightLayout}
@@ -37,13 +36,13 @@ module _ (q : WeightLayout) (raw : List ℤ) (before : List ℕ) (accepted : pac
   unfolding pack_answer weight_checks
   setting = in_order-front (setting_checks q) _ (in_order-front (weight_checks q (length raw) (length before)) (value_checks q.precision raw) accepted)
 
-  pub position-given : (k c r s : ℕ) → Element q k c r s → position_quantity q k c r s ≡ Is (element_position q k c r s)
+  pub position-given : (k c r s : ℕ) → Element q k c r s → position_quantity q k c r s ≡ Ok (element_position q k c r s)
   unfolding position_quantity
-  position-given k c r s x = result-given _ _ (element_position q k c r s) (sym (element-valid q k c r s setting (inside q k c r s x)))
+  position-given k c r s x = given-accepted (element_position q k c r s) (sym (element-valid q k c r s setting (inside q k c r s x)))
 
-  pub counts-given : (count_quantity q ≡ Is (length raw)) × (extent_quantity q ≡ Is (surface_bytes q))
+  pub counts-given : (count_quantity q ≡ Ok (length raw)) × (extent_quantity q ≡ Ok (surface_bytes q))
   unfolding count_quantity extent_quantity
-  counts-given = (result-given _ _ (element_count q) setting ∙ ap Is (sym adm.count), result-given _ _ (surface_bytes q) setting)
+  counts-given = (given-accepted (element_count q) setting ∙ ap (λ (n : ℕ). Ok n) (sym adm.count), given-accepted (surface_bytes q) setting)
 
   -- what packing leaves
   left : pack_buffer q raw before ≡ packed q raw before

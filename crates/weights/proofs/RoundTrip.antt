@@ -8,7 +8,7 @@ use lib.ListN.{length, get_or}
 use lib.Seq.{ext_get_or}
 use lib.IntN.{ℤ, pos}
 use lib.Signed.{mag}
-use Rattle.refusal.specs.declared.Answer.TheVariants.{Accepted}
+use Rattle.refusal.specs.Checks.{Accepted}
 use Rattle.elements.specs.Bytes.{element_at}
 use Rattle.elements.proofs.ByteLaws.{element_at-byte_of}
 use Rattle.elements.proofs.TabulateLaws.{length-tabulate, get_d_tabulate}

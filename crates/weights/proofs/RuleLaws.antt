@@ -8,11 +8,10 @@ use mathlib.Core.Bool.{true, false}
 use mathlib.Core.List.{List, [], ◌∷◌}
 use lib.Dec.{leb, ltb, eqb}
 use borrow.Author.Tests.{lt-ltb, le-ltb, le-leb, lt-leb, eq-eqb, ne_eqb}
-use Rattle.refusal.specs.declared.Answer.{Answer}
-use Rattle.refusal.specs.declared.Answer.TheVariants.{Accepted, Refused}
-use Rattle.refusal.specs.declared.Refusal.{Refusal}
+use Rattle.std.specs.Prelude.{Err}
+use Rattle.refusal.specs.declared.Fault.{Fault}
 use Rattle.refusal.specs.declared.Refusal.TheVariants.{Size, Precision, BufferLength, ElementCount, Bounds}
-use Rattle.refusal.specs.Checks.{in_order, require}
+use Rattle.refusal.specs.Checks.{in_order, require, Answer, Accepted, Refused}
 use Rattle.refusal.proofs.CheckLaws.{Held, in_order-all, require_at-held, in_order-nil, in_order-next, in_order-stop, in_order-passed, in_order-refused, in_order-front, in_order-back}
 use Rattle.weights.specs.declared.WeightLayout.{WeightLayout}
 use Rattle.weights.specs.Geometry.{element_count, surface_bytes}
@@ -27,7 +26,7 @@ module _ (q : WeightLayout) where
   setting-sizes e = sym (in_order-stop 0 Size r2 e)
 
   pub setting-held : in_order (setting_checks q) ≡ Accepted → sizes_valid q ≡ true
-  unfolding setting_checks Held
+  unfolding Held
   setting-held e = require_at-held _ _ _ (in_order-all _ e).0
 
   module _ (sz : sizes_valid q ≡ true) where
@@ -51,7 +50,7 @@ module _ (q : WeightLayout) (given len : ℕ) where
   unfolding r4
   r3 = require ElementCount (eqb given (element_count q)) ∷ r4
 
-  pub check-setting : {r : Refusal} {i : ℕ} → in_order (setting_checks q) ≡ Refused r i → in_order (weight_checks q given len) ≡ Refused r i
+  pub check-setting : {f : Fault} → in_order (setting_checks q) ≡ Err f → in_order (weight_checks q given len) ≡ Err f
   unfolding weight_checks r3 r4
   check-setting e = in_order-refused (setting_checks q) r3 e
 
@@ -81,7 +80,7 @@ module _ (q : WeightLayout) (k c r s : ℕ) where
   r9 : List Answer
   r9 = require Bounds (element_inside q k c r s) ∷ []
 
-  pub element-setting : {x : Refusal} {i : ℕ} → in_order (setting_checks q) ≡ Refused x i → in_order (element_checks q k c r s) ≡ Refused x i
+  pub element-setting : {f : Fault} → in_order (setting_checks q) ≡ Err f → in_order (element_checks q k c r s) ≡ Err f
   unfolding element_checks r9
   element-setting e = in_order-refused (setting_checks q) r9 e
 

@@ -1,9 +1,7 @@
 -- What each call on weights answers and leaves (scope paper, "Weights", "Refusal numbers": "Orders"). Where a call is refused, every lent list
 -- stays as it was. Assumes nothing.
 use Rattle.std.specs.Prelude.{ℕ, List, ◌++◌, length, ℤ}
-use Rattle.refusal.specs.declared.Answer.{Answer}
-use Rattle.refusal.specs.declared.Quantity.{Quantity}
-use Rattle.refusal.specs.Checks.{in_order, leaves, quantity}
+use Rattle.refusal.specs.Checks.{in_order, leaves, quantity, Answer, Quantity}
 use Rattle.elements.specs.Values.{value_checks}
 use Rattle.weights.specs.declared.WeightLayout.{WeightLayout}
 use Rattle.weights.specs.Geometry.{element_count, element_position, surface_bytes}

@@ -1,8 +1,7 @@
 -- Which weight settings are valid, and the order in which they are checked (scope paper, "Weights", "Refusal numbers"). Assumes nothing.
 use Rattle.std.specs.Prelude.{ℕ, Bool, ◌&&◌, List, [], ◌∷◌, ◌++◌, leb, ltb, eqb}
 use Rattle.refusal.specs.declared.Refusal.TheVariants.{Size, Precision, BufferLength, ElementCount, Bounds}
-use Rattle.refusal.specs.declared.Answer.{Answer}
-use Rattle.refusal.specs.Checks.{require}
+use Rattle.refusal.specs.Checks.{require, Answer}
 use Rattle.refusal.specs.Sizes.{size_valid}
 use Rattle.weights.specs.declared.WeightLayout.{WeightLayout}
 use Rattle.weights.specs.Geometry.{element_count, surface_bytes}
