@@ -14,6 +14,7 @@ fn root(n: u32) -> u32
         return 0;
     }
     let mut estimate: u32 = 65535;
+    // A loop: it goes on until the estimate stops falling, not by one.
     loop {
         let next = (estimate + n / estimate) / 2;
         if estimate <= next {
@@ -28,37 +29,33 @@ fn entry(last: u32, step: u32, i: u32) -> i16
     requires { last * step ≤ 268435456 }
     ensures { result ≡ curve_entry last step i }
 {
-    root(general::least(i, last) * step) as i16
+    root(i.min(last) * step) as i16
 }
 
 // The entries of a curve, from entry 0 on.
-fn fill(last: u32, step: u32, entries: &mut [i16])
-    requires { (last * step ≤ 268435456) × (length entries.old ≤ 4294967295) }
-    ensures { entries.new ≡ map (curve_entry last step) (indices 0 (length entries.old)) }
+fn table<const N: usize>(last: u32, step: u32) -> [i16; N]
+    requires { (last * step ≤ 268435456) × (N ≤ 4294967295) }
+    ensures { result ≡ map (curve_entry last step) (indices 0 N) }
 {
-    let mut i: usize = 0;
-    while i < entries.len() {
+    let mut entries = [0i16; N];
+    for i in 0..N {
         entries[i] = entry(last, step, i as u32);
-        i += 1;
     }
+    entries
 }
 
 // The entries of the Y curve.
 pub fn y_table() -> [i16; 257]
     ensures { result ≡ y_table }
 {
-    let mut entries = [0i16; 257];
-    fill(256, 1048576, &mut entries);
-    entries
+    table(256, 1048576)
 }
 
 // The entries of the X curve.
 pub fn x_table() -> [i16; 65]
     ensures { result ≡ x_table }
 {
-    let mut entries = [0i16; 65];
-    fill(64, 262144, &mut entries);
-    entries
+    table(64, 262144)
 }
 
 // Entry i of the Y curve; past the last entry, the last.

@@ -4,4 +4,4 @@ use Rattle.curve_computed.proofs.x_table.Goals as goal
 
 pub returns : goal.returns
 unfolding curve_x x_table
-returns c = c.fill.ensures
+returns c = c.table.ensures

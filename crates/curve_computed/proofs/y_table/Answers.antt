@@ -4,4 +4,4 @@ use Rattle.curve_computed.proofs.y_table.Goals as goal
 
 pub returns : goal.returns
 unfolding curve_y y_table
-returns c = c.fill.ensures
+returns c = c.table.ensures
