@@ -20,7 +20,7 @@ use Rattle.lines.proofs.SplitLaws.{part_length-le, part-whole}
 use Rattle.lines.proofs.StepLaws.{collected-ended, collected-open}
 use Rattle.script.specs.declared.Sheet.{Sheet}
 use Rattle.script.specs.declared.Fed.{Fed}
-use Rattle.script.specs.declared.Given.TheVariants.{Nothing}
+use Rattle.std.proofs.Common.{None}
 use Rattle.script.specs.Feed.{with_lines, line_fed, fed, and_then, then_fed, part_fed}
 
 -- ---- one call
@@ -30,7 +30,7 @@ module _ (s : Sheet) (part : List ℕ) where
   abbrev pub longer : Sheet
   longer = with_lines s (record { count = s.lines.count; line = added s.lines.line (take (part_length 10 part) part) })
 
-  pub fed-open : length part ≤ part_length 10 part → fed s part ≡ record { sheet = longer; read = part_length 10 part; given = Nothing }
+  pub fed-open : length part ≤ part_length 10 part → fed s part ≡ record { sheet = longer; read = part_length 10 part; given = None }
   unfolding fed
   fed-open h = rw (← collected-open s.lines part refl refl h)
 
@@ -58,7 +58,7 @@ module _ (s : Sheet) (part : List ℕ) where
     unfolding fed
     feed-ended t = rw (← e, t)
 
-    pub feed-open : c.ended ≡ false → ◌≡◌ {A = Fed} (record { sheet = with_lines s c.lines; read = c.read; given = Nothing }) (fed s part)
+    pub feed-open : c.ended ≡ false → ◌≡◌ {A = Fed} (record { sheet = with_lines s c.lines; read = c.read; given = None }) (fed s part)
     unfolding fed
     feed-open t = rw (← e, t)
 

@@ -7,9 +7,10 @@ use mathlib.Core.Path.{◌≡◌}
 use mathlib.Core.Bool.{true, false}
 use mathlib.Core.List.{List, map, flatten}
 use lib.ListN.{length, get_or}
+use Rattle.std.proofs.Common.{Option, Some}
 use Rattle.refusal.specs.declared.Refusal.{Refusal}
 use Rattle.refusal.specs.declared.Refusal.TheVariants.{Size}
-use Rattle.refusal.specs.declared.Answer.TheVariants.{Accepted, Refused}
+use Rattle.refusal.specs.Checks.{Accepted, Refused}
 use Rattle.layout.specs.declared.CubeLayout.{CubeLayout}
 use Rattle.layout.specs.Geometry.{cube_extent}
 use Rattle.layout.specs.Contents.{zeros_of}
@@ -19,7 +20,8 @@ use Rattle.records.specs.declared.Record.TheVariants.{Frame, Stall, Cell, Leave}
 use Rattle.regions.specs.Rules.{region_box, whole_region}
 use Rattle.regions.specs.Calls.{no_region, empty_table, with_slot, release_answer, release_table}
 use Rattle.script.specs.declared.Sheet.{Sheet}
-use Rattle.script.specs.Rows.{Desk, on_stall, record_answer, value_after, desk_after}
+use Rattle.script.specs.declared.Desk.{Desk}
+use Rattle.script.specs.Rows.{on_stall, record_answer, value_after, desk_after}
 use Rattle.script.specs.Sheets.{sheet, line_number}
 use Rattle.script.specs.Output.{output, output_of_parts}
 use Rattle.script.specs.Feed.{start_sheet, fed, part_fed, whole_part, rows_of_parts}
@@ -56,31 +58,31 @@ pub row_number : (input : List ℕ) (k : ℕ) → k < length (lines_of input) �
 row_number = whole.number-at
 
 -- a refused record, a frame too, leaves the frame and the slots, and its value is 0
-pub refused-changes-nothing : (d : Desk) (r : Record) {x : Refusal} {i : ℕ} → record_answer d r ≡ Refused x i → (desk_after d r ≡ d) × (value_after d r ≡ 0)
+pub refused-changes-nothing : (d : Desk) (r : Option Record) {x : Refusal} {i : ℕ} → record_answer d r ≡ Refused x i → (desk_after d r ≡ d) × (value_after d r ≡ 0)
 refused-changes-nothing d r e = (row.refused-desk d r e, row.refused-value d r e)
 
 -- an accepted frame is the frame, and empties the slots
-pub frame-empties : (d : Desk) (q : CubeLayout) → record_answer d (Frame q) ≡ Accepted → desk_after d (Frame q) ≡ record { framed = true; table = empty_table q }
+pub frame-empties : (d : Desk) (q : CubeLayout) → record_answer d (Some (Frame q)) ≡ Accepted → desk_after d (Some (Frame q)) ≡ record { framed = true; table = empty_table q }
 frame-empties = whole.frame-done
 
 -- an accepted leave empties its slot; the frame and every other slot stay
-pub leave-empties : (d : Desk) (slot id : ℕ) → record_answer d (Leave slot id) ≡ Accepted
-    → desk_after d (Leave slot id) ≡ record { framed = d.framed; table = with_slot d.table slot no_region }
+pub leave-empties : (d : Desk) (slot id : ℕ) → record_answer d (Some (Leave slot id)) ≡ Accepted
+    → desk_after d (Some (Leave slot id)) ≡ record { framed = d.framed; table = with_slot d.table slot no_region }
 leave-empties = whole.leave-done
 
 -- and its value is the count of elements that a release of that stall sets to 0 (`release_buffer`)
-pub leave-counts : (d : Desk) (slot id : ℕ) → record_answer d (Leave slot id) ≡ Accepted
-    → value_after d (Leave slot id) ≡ length (zeros_of (region_box (on_stall d slot id) (whole_region (on_stall d slot id))))
+pub leave-counts : (d : Desk) (slot id : ℕ) → record_answer d (Some (Leave slot id)) ≡ Accepted
+    → value_after d (Some (Leave slot id)) ≡ length (zeros_of (region_box (on_stall d slot id) (whole_region (on_stall d slot id))))
 leave-counts = whole.leave-value
 
 -- after a frame a leave answers what a release with a buffer long enough answers, and leaves its table
 pub leave-is-release : (d : Desk) → d.framed ≡ true → (slot id len : ℕ) → d.table.layout.start + cube_extent d.table.layout ≤ len
-    → (record_answer d (Leave slot id) ≡ release_answer d.table slot id len) × ((desk_after d (Leave slot id)).table ≡ release_table d.table slot id len)
+    → (record_answer d (Some (Leave slot id)) ≡ release_answer d.table slot id len) × ((desk_after d (Some (Leave slot id))).table ≡ release_table d.table slot id len)
 leave-is-release d f slot id len room = (whole.leave-answer d f slot id len room, whole.leave-table d f slot id len room)
 
 -- before an accepted frame a stall, a cell or a leave gets 1, whatever its numbers
 pub before-a-frame : (d : Desk) → d.framed ≡ false
-    → ((slot w0 h0 w h id : ℕ) → record_answer d (Stall slot w0 h0 w h id) ≡ Refused Size 0)
-    × ((slot c h w id : ℕ) → record_answer d (Cell slot c h w id) ≡ Refused Size 0)
-    × ((slot id : ℕ) → record_answer d (Leave slot id) ≡ Refused Size 0)
+    → ((slot w0 h0 w h id : ℕ) → record_answer d (Some (Stall slot w0 h0 w h id)) ≡ Refused Size 0)
+    × ((slot c h w id : ℕ) → record_answer d (Some (Cell slot c h w id)) ≡ Refused Size 0)
+    × ((slot id : ℕ) → record_answer d (Some (Leave slot id)) ≡ Refused Size 0)
 before-a-frame d f = (whole.stall-first d f, whole.cell-first d f, whole.leave-first d f)

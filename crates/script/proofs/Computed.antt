@@ -4,6 +4,7 @@ use Prim.Native.Nat.{ℕ}
 use mathlib.Core.Path.{◌≡◌, refl}
 use mathlib.Core.Bool.{true}
 use mathlib.Core.List.{List, [], ◌∷◌, ◌++◌, map, flatten}
+use Rattle.std.proofs.Common.{Some}
 use Rattle.refusal.specs.Codes.{answer_code}
 use Rattle.refusal.specs.Checks.{require_at, in_order, leaves}
 use Rattle.refusal.specs.Sizes.{size_valid}
@@ -22,7 +23,8 @@ use Rattle.regions.specs.Slots.{rectangle, slot_of, slots_of, rectangle_has, occ
 use Rattle.regions.specs.Rules.{slot_at, is_filled, rectangle_of, id_of, place_checks, box_in_rectangle, slot_checks, region_box_checks}
 use Rattle.regions.specs.Calls.{placed_region, place_answer, place_table}
 use Rattle.script.specs.declared.Row.{Row}
-use Rattle.script.specs.Rows.{Desk, framed_or, record_answer, record_value, record_done, value_after, desk_after}
+use Rattle.script.specs.declared.Desk.{Desk}
+use Rattle.script.specs.Rows.{framed_or, record_answer, record_value, record_done, value_after, desk_after}
 use Rattle.script.specs.Sheets.{row_of, rows_after, sheet}
 use Rattle.script.specs.Feed.{start_sheet, line_ended, line_row, fed, finished, and_then, part_fed, rows_of_parts}
 use Rattle.script.specs.Output.{header, fields_text, row_text, output}
@@ -90,7 +92,7 @@ abbrev by_hand : Desk
 by_hand = record { framed = true; table = record { layout = layout_of 3 2 40 0 128 256 0; slots = placed_region 7 (rectangle 2 0 2 2) ∷ [] } }
 
 abbrev answering : Desk → Record → ℕ
-answering d r = answer_code (record_answer d r)
+answering d r = answer_code (record_answer d (Some r))
 
 pub record Computed : Type 0 where
   -- `cell` 0 33 1 1 7, byte by byte

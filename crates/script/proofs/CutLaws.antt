@@ -21,7 +21,8 @@ use Rattle.records.proofs.LineLaws.{line-record}
 use Rattle.script.specs.declared.Sheet.{Sheet}
 use Rattle.script.specs.declared.Row.{Row}
 use Rattle.script.specs.declared.Fed.{Fed}
-use Rattle.script.specs.Rows.{Desk, desk_after}
+use Rattle.script.specs.declared.Desk.{Desk}
+use Rattle.script.specs.Rows.{desk_after}
 use Rattle.script.specs.Sheets.{row_of, rows_after}
 use Rattle.script.specs.Feed.{desk_of, line_ended, line_row, fed, finished, and_then, Outcome, part_fed, rows_of_parts}
 use Rattle.script.proofs.CallLaws.{longer, fed-open, fed-ended, no_bytes}

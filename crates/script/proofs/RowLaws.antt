@@ -11,14 +11,15 @@ use mathlib.Core.Path.{◌≡◌, refl, ap, ◌∙◌}
 use mathlib.Core.Bool.{Bool, true, false, cond}
 use mathlib.Core.List.{List, [], ◌∷◌, map}
 use lib.ListN.{length, get_or}
+use Rattle.std.proofs.Common.{Option}
 use Rattle.refusal.specs.declared.Refusal.{Refusal}
 use Rattle.refusal.specs.declared.Refusal.TheVariants.{Size}
-use Rattle.refusal.specs.declared.Answer.{Answer}
-use Rattle.refusal.specs.declared.Answer.TheVariants.{Accepted, Refused}
+use Rattle.refusal.specs.Checks.{Answer, Accepted, Refused}
 use Rattle.refusal.proofs.CheckLaws.{leaves-done, leaves-before}
 use Rattle.records.specs.declared.Record.{Record}
 use Rattle.records.specs.Records.{record_of}
-use Rattle.script.specs.Rows.{Desk, framed_or, record_answer, record_value, record_done, value_after, desk_after}
+use Rattle.script.specs.declared.Desk.{Desk}
+use Rattle.script.specs.Rows.{framed_or, record_answer, record_value, record_done, value_after, desk_after}
 use Rattle.script.specs.Sheets.{row_of, rows_after, line_number}
 
 pub rows-count : (n : ℕ) (d : Desk) (lines : List (List ℕ)) → length (rows_after n d lines) ≡ length lines
@@ -32,7 +33,7 @@ rows-number n d [] k h = absurd (not-suc-le-zero h)
 rows-number n d (line ∷ lines) zero h = omega arith
 rows-number n d (line ∷ lines) (suc k) h = rows-number (n + 1) (desk_after d (record_of line)) lines k (le_of_suc-le-suc h) ∙ omega arith
 
-module _ (d : Desk) (r : Record) where
+module _ (d : Desk) (r : Option Record) where
   pub refused-desk : {x : Refusal} {i : ℕ} → record_answer d r ≡ Refused x i → desk_after d r ≡ d
   unfolding desk_after
   refused-desk e = leaves-before (record_done d r) d e

@@ -1,13 +1,11 @@
 -- The text that a sheet prints (scope paper, "The sheet program"): a header, then a row for each line. Numbers are decimal, with no leading zeros; the
 -- value has a sign, so that a minus stands before a negative one. Assumes nothing.
-use Rattle.std.specs.Prelude.{ℕ, ℤ, pos}
+use Rattle.std.specs.Prelude.{ℕ, ℤ, pos, Option, None, Some}
 use mathlib.Core.List.{List, [], ◌∷◌, ◌++◌, map, flatten}
 use Rattle.refusal.specs.Codes.{answer_code}
 use Rattle.lines.specs.Digits.{digits, numeral}
 use Rattle.lines.specs.Collecting.{line_text, written}
 use Rattle.script.specs.declared.Row.{Row}
-use Rattle.script.specs.declared.Given.{Given}
-use Rattle.script.specs.declared.Given.TheVariants.{Nothing, Line}
 use Rattle.script.specs.Sheets.{sheet}
 use Rattle.script.specs.Feed.{start_sheet, rows_of_parts}
 
@@ -23,9 +21,9 @@ unfoldable pub row_text : Row → List ℕ
 row_text row = fields_text row.line (answer_code row.answer) (pos row.value)
 
 -- the row of a line that ended, if one did
-unfoldable pub given_text : Given → List ℕ
-given_text Nothing = []
-given_text (Line row) = row_text row
+unfoldable pub given_text : Option Row → List ℕ
+given_text None = []
+given_text (Some row) = row_text row
 
 -- the whole output of a whole input
 unfoldable pub output : List ℕ → List ℕ

@@ -1,13 +1,14 @@
 -- The rows of a whole sheet (scope paper, "The sheet program"). Assumes nothing.
-use Rattle.std.specs.Prelude.{ℕ, ◌+◌, List, [], ◌∷◌}
+use Rattle.std.specs.Prelude.{ℕ, ◌+◌, List, [], ◌∷◌, Option}
 use Rattle.lines.specs.Texts.{lines_of}
 use Rattle.records.specs.declared.Record.{Record}
 use Rattle.records.specs.Records.{record_of}
 use Rattle.script.specs.declared.Row.{Row}
-use Rattle.script.specs.Rows.{Desk, start_desk, record_answer, value_after, desk_after}
+use Rattle.script.specs.declared.Desk.{Desk}
+use Rattle.script.specs.Rows.{start_desk, record_answer, value_after, desk_after}
 
--- the row of a record
-unfoldable pub row_of : ℕ → Desk → Record → Row
+-- the row of a record, or of a line that is none
+unfoldable pub row_of : ℕ → Desk → Option Record → Row
 row_of n d r = record { line = n; answer = record_answer d r; value = value_after d r }
 
 -- the rows of lines, the first of them after line n
