@@ -1,7 +1,7 @@
 -- The three lists before and after steps (specs/Steps.antt): no step, steps one after another, a byte, an atom, a stretch without padding. By the laws of a part
 -- whose first bytes are mended. Assumes nothing.
---     zeros-none, zeros-more, zeros-less  bytes that are zero
---     goes_none, goes_then                no step; steps one after another
+--     zeros-none, zeros-more, zeros-slice bytes that are zero
+--     goes_none, goes_then, mends_then    no step; steps one after another
 --     goes-zero, goes-dirt, goes-zeros    one byte of padding: zero, or not; zeros
 --     goes-skip, goes-atom                bytes that are no padding; an atom's bytes
 use Prim.Native.Nat.{ℕ, zero, suc, ◌+◌, ◌-◌, ◌%◌, ◌≤◌, ◌<◌, min}
@@ -14,11 +14,13 @@ use mathlib.Core.Bool.{Bool, true, false}
 use mathlib.Core.List.{List, map}
 use lib.Dec.{leb}
 use lib.ListN.{length, get_or, set, take, drop, length-append, length-set, length-drop, length-map}
+use Rattle.std.proofs.lemmas.List.{get_or-take, get_or-drop, length-take}
 use borrow.Author.Tests.{le-leb, lt-leb}
 use Rattle.layout.specs.Owners.{owner}
 use Rattle.padding.specs.Mending.{Dirt, is_dirty, reported}
 use Rattle.padding.specs.Calls.{filled}
-use Rattle.padding_calls.specs.Steps.{Zeros, Done, Goes}
+use Rattle.padding_calls.specs.declared.rows.Report.{Report}
+use Rattle.padding_calls.specs.Steps.{Zeros, Done, Goes, Mends}
 use Rattle.padding_calls.proofs.DoneLaws.{zero-clean, padding-dirty, done-clean, done-byte, done-dirt, done-skip}
 
 -- ---- zeros
@@ -35,9 +37,13 @@ zeros-more from i part z e x hf hx =
       | no g ↦ let at : x ≡ i = omega (arith, g, hx) in ap (λ (k : ℕ). get_or part k 0) at ∙ e
     ]
 
-pub zeros-less : (from i to : ℕ) (part : List ℕ) → to ≤ i → Zeros from i part → Zeros from to part
+pub zeros-slice : (from to : ℕ) (part : List ℕ) → to ≤ length part → Zeros 0 (length (take (to - from) (drop from part))) (take (to - from) (drop from part)) → Zeros from to part
 unfolding Zeros
-zeros-less from i to part h z x hf hx = z x hf (omega (arith, h, hx))
+zeros-slice from to part h z x hf hx =
+    let at : x - from < to - from = omega (arith, hf, hx) in
+    let inside : x - from < length (take (to - from) (drop from part)) = omega (arith, at, h, length-take (to - from) (drop from part), length-drop from part) in
+    let sum : from + (x - from) ≡ x = omega (arith, hf) in
+    ap (λ (k : ℕ). get_or part k 0) (sym sum) ∙ sym (get_or-drop from part (x - from) 0) ∙ sym (get_or-take (to - from) (drop from part) (x - from) 0 at) ∙ z (x - from) (omega arith) inside
 
 -- a list of the report has a place for line n: so had the one that was lent
 place-left : (f : Dirt → ℕ) (report : List Dirt) (before now : List ℕ) (n : ℕ) → n ≡ length report → now ≡ filled (map f report) before → n < length now → n < length before
@@ -111,6 +117,16 @@ module _ (pads : ℕ → Bool) (first : ℕ) (part positions olds : List ℕ) wh
             subst (λ (k : ℕ). Done q first l k n part positions olds) (omega (arith, hij))
             (done-skip q first l (j - i) i n part positions olds (omega (arith, hij, hj, e)) (λ x hx ht. p x hx (omega (arith, ht, hij)) ∙ none x hx (omega (arith, ht, hij))) d);
       }
+
+-- steps one after another, of a part and the report that is being filled
+pub mends_then : (pads : ℕ → Bool) (first a b c : ℕ) (part : List ℕ) (report : Report) (part' : List ℕ) (report' : Report) (part'' : List ℕ) (report'' : Report) → a ≤ b → b ≤ c
+    → Mends pads first a b part report part' report' → Mends pads first b c part' report' part'' report'' → Mends pads first a c part report part'' report''
+mends_then pads first a b c part report part' report' part'' report'' hab hbc m m' =
+    record {
+      same_positions = m'.same_positions ∙ m.same_positions;
+      same_olds = m'.same_olds ∙ m.same_olds;
+      goes = goes_then pads first part report.positions.now report.olds.now a b c report.lines report'.lines report''.lines part' report'.positions.now report'.olds.now part'' report''.positions.now report''.olds.now hab hbc m.goes m'.goes;
+    }
 
 module _ (first : ℕ) (part positions olds : List ℕ) where
   -- a byte of padding that is not zero is reported

@@ -5,6 +5,7 @@ use Rattle.layout.specs.Geometry.{size_of, surfaces}
 use Rattle.layout.specs.Owners.{Owner, element, padding, outside, owner}
 use Rattle.padding.specs.Mending.{Dirt, mended, reported}
 use Rattle.padding.specs.Calls.{Lent, filled}
+use Rattle.padding_calls.specs.declared.rows.Report.{Report}
 use Rattle.padding_calls.specs.declared.stretches.Stretch.{Stretch}
 
 -- ---- where padding lies
@@ -42,6 +43,9 @@ pub record Room (first from to n : ℕ) (part positions olds : List ℕ) : Type 
   pub olds_ge : length part ≤ length olds
   pub last_lt : first + length part < 2 ^ 64
 
+abbrev pub HasRoom : ℕ → ℕ → ℕ → List ℕ → Report → Type 0
+HasRoom first from to part report = Room first from to report.lines part report.positions.now report.olds.now
+
 -- of what was lent the first i bytes are mended, and n lines are reported
 pub record Done (q : CubeLayout) (first : ℕ) (l : Lent) (i n : ℕ) (part positions olds : List ℕ) : Type 0 where
   pub part_is : part ≡ mended q first (take i l.part) ++ drop i l.part
@@ -57,3 +61,9 @@ pub record Goes (pads : ℕ → Bool) (first from to n r : ℕ) (part positions 
   pub olds_length : length olds' ≡ length olds
   pub goes : (q : CubeLayout) (l : Lent) → length l.part ≡ length part → Done q first l from n part positions olds
       → ((x : ℕ) → from ≤ x → x < to → is_padding (owner q (first + x)) ≡ pads (first + x)) → Done q first l to r part' positions' olds'
+
+-- the same of a part and the report that is being filled: it fills what was lent to it
+pub record Mends (pads : ℕ → Bool) (first from to : ℕ) (part : List ℕ) (report : Report) (part' : List ℕ) (report' : Report) : Type 0 where
+  pub same_positions : report'.positions.ghost_name ≡ report.positions.ghost_name
+  pub same_olds : report'.olds.ghost_name ≡ report.olds.ghost_name
+  pub goes : Goes pads first from to report.lines report'.lines part report.positions.now report.olds.now part' report'.positions.now report'.olds.now

@@ -1,125 +1,88 @@
 // The bytes of a part, one stretch after another.
-ghost use Rattle.std.specs.Prelude.{◌≡◌, true, ◌&&◌, ℕ, ◌+◌, ◌-◌, ◌%◌, ◌≤◌, min, leb, length};
+ghost use Rattle.std.specs.Prelude.{◌≡◌, true, ◌&&◌, ℕ, ◌+◌, ◌%◌, ◌<◌, leb, length, set};
 ghost use Rattle.refusal.specs.declared.Answer.TheVariants.{Accepted};
 ghost use Rattle.refusal.specs.Checks.{in_order};
 ghost use Rattle.layout.specs.Rules.{layout_checks};
 ghost use Rattle.padding.specs.Calls.{lent};
-ghost use Rattle.padding_calls.specs.Steps.{Zeros, Room, Goes, Done};
+ghost use Rattle.padding_calls.specs.Steps.{Zeros, Room, HasRoom, Mends, Done};
 
 use crate::stretches;
 use layout::CubeLayout;
 
-// The first number less the second, 0 where that one is larger.
-fn less(a: usize, b: usize) -> usize
-    ensures { result ≡ a - b }
-{
-    if b < a { a - b } else { 0 }
-}
-
-// So many bytes further on, but not past an end.
-fn onward(i: usize, n: usize, end: usize) -> usize
-    requires { i ≤ end }
-    ensures { result ≡ min (i + n) end }
-{
-    if end - i < n { end } else { i + n }
-}
-
-// A position as a byte of the part, but not past the part's end.
-fn byte_of(position: u64, first: u64, end: usize) -> usize
-    requires { first ≤ position }
-    ensures { result ≡ min (position - first) end }
-{
-    let n = position - first;
-    if (end as u64) < n { end } else { n as usize }
-}
-
-// Whether bytes of the part are all zero: by one pass that never leaves early.
-fn all_zero(from: usize, to: usize, part: &[u8]) -> bool
-    requires { to ≤ length part.now }
-    ensures { result ≡ true → Zeros from to part.now }
+// Whether all bytes are zero: by one pass that never leaves early.
+fn all_zero(bytes: &[u8]) -> bool
+    ensures { result ≡ true → Zeros 0 (length bytes.now) bytes.now }
 {
     let mut clean = true;
-    let mut i = from;
-    while i < to {
-        if part[i] != 0 {
+    for &b in bytes {
+        if b != 0 {
             clean = false;
         }
-        i += 1;
     }
     clean
 }
 
-// Bytes that are all padding: each that is not zero is reported, and becomes zero. How many are reported then.
-fn clear_each(
-    first: u64,
-    from: usize,
-    to: usize,
-    n: usize,
-    part: &mut [u8],
-    positions: &mut [u64],
-    olds: &mut [u8],
-) -> usize
-    requires { Room first from to n part.old positions.old olds.old }
-    ensures { Goes (λ (x : ℕ). true) first from to n result part.old positions.old olds.old part.new positions.new olds.new }
-{
-    let mut i = from;
-    let mut count = n;
-    while i < to {
-        let b = part[i];
-        if b != 0 {
-            positions[count] = first + i as u64;
-            olds[count] = b;
-            part[i] = 0;
-            count += 1;
-        }
-        i += 1;
+// A report that is being filled: room for positions and old values, and how many lines it has.
+#[derive(Drop)]
+struct Report<'a> {
+    positions: &'a mut [u64],
+    olds: &'a mut [u8],
+    lines: usize,
+}
+
+impl Report<'_> {
+    // One line more.
+    fn push(&mut self, position: u64, old: u8)
+        requires { (self.old.lines < length self.old.positions.now) × (self.old.lines < length self.old.olds.now) }
+        ensures same_reference { (self.new.positions.ghost_name ≡ self.old.positions.ghost_name) × (self.new.olds.ghost_name ≡ self.old.olds.ghost_name) }
+        ensures positions { self.new.positions.now ≡ set self.old.positions.now self.old.lines position }
+        ensures olds { self.new.olds.now ≡ set self.old.olds.now self.old.lines old }
+        ensures lines { self.new.lines ≡ self.old.lines + 1 }
+    {
+        self.positions[self.lines] = position;
+        self.olds[self.lines] = old;
+        self.lines += 1;
     }
-    count
+}
+
+// Bytes that are all padding: each that is not zero is reported, and becomes zero.
+fn clear_each(first: u64, from: usize, to: usize, part: &mut [u8], report: &mut Report)
+    requires { HasRoom first from to part.old report.old }
+    ensures { Mends (λ (x : ℕ). true) first from to part.old report.old part.new report.new }
+{
+    for i in from..to {
+        let old = part[i];
+        if old != 0 {
+            report.push(first + i as u64, old);
+            part[i] = 0;
+        }
+    }
 }
 
 // The same, where most often all of them are zero already.
-fn clear(
-    first: u64,
-    from: usize,
-    to: usize,
-    n: usize,
-    part: &mut [u8],
-    positions: &mut [u64],
-    olds: &mut [u8],
-) -> usize
-    requires { Room first from to n part.old positions.old olds.old }
-    ensures { Goes (λ (x : ℕ). true) first from to n result part.old positions.old olds.old part.new positions.new olds.new }
+fn clear(first: u64, from: usize, to: usize, part: &mut [u8], report: &mut Report)
+    requires { HasRoom first from to part.old report.old }
+    ensures { Mends (λ (x : ℕ). true) first from to part.old report.old part.new report.new }
 {
-    if all_zero(from, to, part) {
-        return n;
+    if !all_zero(&part[from..to]) {
+        clear_each(first, from, to, part, report);
     }
-    clear_each(first, from, to, n, part, positions, olds)
 }
 
 // Bytes of a row's atoms: in each atom those from byte `pad` on are padding.
-fn row(
-    first: u64,
-    from: usize,
-    to: usize,
-    n: usize,
-    pad: usize,
-    part: &mut [u8],
-    positions: &mut [u64],
-    olds: &mut [u8],
-) -> usize
-    requires { Room first from to n part.old positions.old olds.old }
-    ensures { Goes (λ (x : ℕ). leb pad (x % 32)) first from to n result part.old positions.old olds.old part.new positions.new olds.new }
+fn row(first: u64, from: usize, to: usize, pad: usize, part: &mut [u8], report: &mut Report)
+    requires { HasRoom first from to part.old report.old }
+    ensures { Mends (λ (x : ℕ). leb pad (x % 32)) first from to part.old report.old part.new report.new }
 {
     let mut i = from;
-    let mut count = n;
+    // A while: it goes on by an atom's bytes, not by one.
     while i < to {
         let byte = ((first + i as u64) % 32) as usize;
-        let end = onward(i, 32 - byte, to);
-        let start = onward(i, less(pad, byte), end);
-        count = clear(first, start, end, count, part, positions, olds);
+        let end = i + (32 - byte).min(to - i);
+        let start = i + pad.saturating_sub(byte).min(end - i);
+        clear(first, start, end, part, report);
         i = end;
     }
-    count
 }
 
 // Bytes of one stretch.
@@ -128,19 +91,16 @@ fn stretch(
     first: u64,
     from: usize,
     to: usize,
-    n: usize,
     pad: usize,
     part: &mut [u8],
-    positions: &mut [u64],
-    olds: &mut [u8],
-) -> usize
-    requires { Room first from to n part.old positions.old olds.old }
-    ensures { Goes (λ (x : ℕ). atoms && leb pad (x % 32)) first from to n result part.old positions.old olds.old part.new positions.new olds.new }
+    report: &mut Report,
+)
+    requires { HasRoom first from to part.old report.old }
+    ensures { Mends (λ (x : ℕ). atoms && leb pad (x % 32)) first from to part.old report.old part.new report.new }
 {
     if atoms {
-        return row(first, from, to, n, pad, part, positions, olds);
+        row(first, from, to, pad, part, report);
     }
-    n
 }
 
 // All bytes of the part. How many are reported.
@@ -155,13 +115,18 @@ pub(crate) fn all(
     ensures { Done layout first (lent part.old positions.old olds.old) (length part.old) result part.new positions.new olds.new }
 {
     let pad = stretches::elements_end(layout) as usize;
+    let mut report = Report {
+        positions,
+        olds,
+        lines: 0,
+    };
     let mut i: usize = 0;
-    let mut n: usize = 0;
+    // A while: it goes on by a stretch's bytes, not by one.
     while i < part.len() {
         let s = stretches::next(layout, first + i as u64);
-        let to = byte_of(s.end, first, part.len());
-        n = stretch(s.atoms, first, i, to, n, pad, part, positions, olds);
+        let to = (s.end - first).min(part.len() as u64) as usize;
+        stretch(s.atoms, first, i, to, pad, part, &mut report);
         i = to;
     }
-    n
+    report.lines
 }

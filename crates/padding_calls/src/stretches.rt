@@ -9,12 +9,13 @@ ghost use Rattle.padding_calls.specs.Steps.{last_surface, elements_end, IsStretc
 use layout::CubeLayout;
 
 // Positions of a file up to an end: all in the atoms of one row of the last surface, or none of them padding.
-#[derive(Drop)]
+#[derive(Clone, Copy)]
 pub struct Stretch {
     pub end: u64,
     pub atoms: bool,
 }
 
+// That a layout keeps the rules stands in each contract here: a type that says it would be one of `layout_calls`, and its callers hold a plain CubeLayout.
 // Surfaces before the last one, S − 1.
 fn surfaces_before(layout: CubeLayout) -> u32
     requires { in_order (layout_checks layout) ≡ Accepted }
@@ -56,10 +57,7 @@ fn in_rows(layout: CubeLayout, base: u64, position: u64) -> Stretch
     let start = position - (position - base) % line;
     let end = start + 32 * layout.width as u64;
     if position < end {
-        return Stretch {
-            end: end,
-            atoms: true,
-        };
+        return Stretch { end, atoms: true };
     }
     Stretch {
         end: start + line,

@@ -14,7 +14,7 @@ use Rattle.padding_calls.proofs.rows.all.Goals as goal
 pub loop-i-init : goal.loop-i-init
 loop-i-init c =
     let a = c.args in
-    (omega arith, omega arith, refl, refl, refl, done-start a.layout a.first (lent a.part.now a.positions.now a.olds.now))
+    (refl, refl, omega arith, omega arith, refl, refl, refl, done-start a.layout a.first (lent a.part.now a.positions.now a.olds.now))
 
 pub loop-i-preserved : goal.loop-i-preserved
 loop-i-preserved c =
@@ -23,15 +23,18 @@ loop-i-preserved c =
     let s = c.next-s.result in
     let pad = c.elements_end-pad.result in
     -- which of the turn's bytes are padding
-    let owners : (x : ℕ) → l.i ≤ x → x < c.byte_of-to.result → is_padding (owner a.layout (a.first + x)) ≡ (s.atoms && leb pad ((a.first + x) % 32)) =
-    λ x hi hx. c.next-s.ensures.owners (a.first + x) (omega (arith, hi)) (omega (arith, hx, c.byte_of-to.ensures))
+    let owners : (x : ℕ) → l.i ≤ x → x < c.min-to.result → is_padding (owner a.layout (a.first + x)) ≡ (s.atoms && leb pad ((a.first + x) % 32)) =
+    λ x hi hx. c.next-s.ensures.owners (a.first + x) (omega (arith, hi)) (omega (arith, hx, c.min-to.ensures))
     ∙ ap (λ (n : ℕ). s.atoms && leb n ((a.first + x) % 32)) (sym c.elements_end-pad.ensures) in
-    let within : c.byte_of-to.result ≤ length l.part = omega (arith, c.byte_of-to.ensures) in
-    let g = c.stretch-n.ensures in (
-      omega (arith, within, l.invariant.2),
+    let within : c.min-to.result ≤ length l.part = omega (arith, c.min-to.ensures) in
+    let m = c.stretch.ensures in
+    let g = m.goes in (
+      m.same_positions ∙ l.invariant.0,
+      m.same_olds ∙ l.invariant.1,
+      omega (arith, within, l.invariant.4),
       g.count_le,
-      g.part_length ∙ l.invariant.2,
-      g.positions_length ∙ l.invariant.3,
-      g.olds_length ∙ l.invariant.4,
-      g.goes a.layout (lent a.part.now a.positions.now a.olds.now) (sym l.invariant.2) l.invariant.5 owners,
+      g.part_length ∙ l.invariant.4,
+      g.positions_length ∙ l.invariant.5,
+      g.olds_length ∙ l.invariant.6,
+      g.goes a.layout (lent a.part.now a.positions.now a.olds.now) (sym l.invariant.4) l.invariant.7 owners,
     )

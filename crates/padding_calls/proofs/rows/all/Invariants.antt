@@ -8,8 +8,9 @@ use Rattle.padding_calls.proofs.rows.all.Given as goal
 
 abbrev pub invariant-loop-i : goal.invariant-loop-i
 invariant-loop-i l =
-    (l.i ≤ length l.initial.part) × (l.n ≤ l.i) × (length l.part ≡ length l.initial.part) × (length l.positions ≡ length l.initial.positions) × (length l.olds ≡ length l.initial.olds)
-    × Done l.layout l.first (lent l.initial.part l.initial.positions l.initial.olds) l.i l.n l.part l.positions l.olds
+    (l.report.positions.ghost_name ≡ l.initial.report.positions.ghost_name) × (l.report.olds.ghost_name ≡ l.initial.report.olds.ghost_name)
+    × (l.i ≤ length l.initial.part) × (l.report.lines ≤ l.i) × (length l.part ≡ length l.initial.part) × (length l.report.positions.now ≡ length l.initial.report.positions.now) × (length l.report.olds.now ≡ length l.initial.report.olds.now)
+    × Done l.layout l.first (lent l.initial.part l.initial.report.positions.now l.initial.report.olds.now) l.i l.report.lines l.part l.report.positions.now l.report.olds.now
 
 abbrev pub decreases-loop-i : goal.decreases-loop-i
 decreases-loop-i l = length l.part - l.i

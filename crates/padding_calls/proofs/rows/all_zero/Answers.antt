@@ -1,23 +1,16 @@
 -- `padding_calls::rows::all_zero` meets its contract: as long as it says yes, the bytes before the loop's are zero. Assumes nothing.
-use native.Mathlib.Omega.{arith}
 use mathlib.Core.Path.{◌≡◌, sym, ◌∙◌}
 use mathlib.Core.Bool.{true, false}
-use Rattle.padding_calls.proofs.GoesLaws.{zeros-none, zeros-more, zeros-less}
+use Rattle.padding_calls.proofs.GoesLaws.{zeros-none, zeros-more}
 use Rattle.padding_calls.proofs.rows.all_zero.Goals as goal
-use Rattle.padding_calls.proofs.rows.all_zero.Goals.{then-part-i-ne0, else-part-i-ne0}
+use Rattle.padding_calls.proofs.rows.all_zero.Goals.{then-b-ne0, else-b-ne0}
 
-pub loop-i-init : goal.loop-i-init
-loop-i-init c = (omega arith, λ e. zeros-none c.args.from c.args.part.now)
+pub loop-b-init : goal.loop-b-init
+loop-b-init c = λ e. zeros-none 0 c.args.bytes.now
 
-pub loop-i-preserved : goal.loop-i-preserved
-loop-i-preserved c =
-    let l = c.loop-i in (
-      omega (arith, l.invariant.0),
-      λ e. elim c.if-part-i-ne0.branch [
-        | then-part-i-ne0 w ↦ let no : false ≡ true = sym w.clean-is ∙ e in absurd (cc)
-        | else-part-i-ne0 w ↦ zeros-more c.args.from l.i c.args.part.now (l.invariant.1 (sym w.clean-is ∙ e)) w.if-part-i-ne0.false
-      ],
-    )
-
-pub returns : goal.returns
-returns c = λ e. let a = c.args in zeros-less a.from c.loop-i.i a.to a.part.now c.loop-i-test.false (c.loop-i.invariant.1 e)
+pub loop-b-preserved : goal.loop-b-preserved
+loop-b-preserved c =
+    λ e. elim c.if-b-ne0.branch [
+      | then-b-ne0 w ↦ let no : false ≡ true = sym w.clean-is ∙ e in absurd (cc)
+      | else-b-ne0 w ↦ zeros-more 0 c.loop-b.b-index c.args.bytes.now (c.loop-b.invariant (sym w.clean-is ∙ e)) w.if-b-ne0.false
+    ]
