@@ -7,10 +7,10 @@ use mathlib.Core.Path.{◌≡◌, refl, ap}
 use mathlib.Core.List.{List, [], ◌∷◌, map}
 use lib.ListN.{length, take, drop, length-map}
 use lib.Seq.{take_at}
-use Rattle.refusal.specs.declared.Refusal.{Refusal}
-use Rattle.refusal.specs.declared.Answer.TheVariants.{Accepted, Refused}
-use Rattle.refusal.specs.declared.Quantity.TheVariants.{Is, Refused as NotGiven}
-use Rattle.refusal.proofs.CheckLaws.{leaves-done, leaves-before, result-given, result-refused}
+use Rattle.refusal.specs.declared.Fault.{Fault}
+use Rattle.std.specs.Prelude.{Ok, Err}
+use Rattle.refusal.specs.Checks.{Accepted}
+use Rattle.refusal.proofs.CheckLaws.{leaves-done, leaves-before, given-accepted, given-refused}
 use Rattle.layout.specs.declared.CubeLayout.{CubeLayout}
 use Rattle.padding.specs.Mending.{Dirt, mended, reported}
 use Rattle.padding.specs.Calls.{Lent, mend_answer, mend_count, filled, mended_lists, mend_left}
@@ -27,19 +27,19 @@ unfolding filled
 take-filled f report before = take_at (map f report) (drop (length (map f report)) before) (length report) (length-map report f)
 
 module _ (q : CubeLayout) (first len : ℕ) (l : Lent) where
-  module _ (r : Refusal) (at : ℕ) (no : mend_answer q first len l ≡ Refused r at) where
-    pub count-refused : mend_count q first len l ≡ NotGiven r at
+  module _ (f : Fault) (no : mend_answer q first len l ≡ Err f) where
+    pub count-refused : mend_count q first len l ≡ Err f
     unfolding mend_count
-    count-refused = result-refused _ _ _ no
+    count-refused = given-refused _ no
 
     pub left-refused : mend_left q first len l ≡ l
     unfolding mend_left
     left-refused = leaves-before (mended_lists q first l) l no
 
   module _ (ok : mend_answer q first len l ≡ Accepted) where
-    pub count-accepted : mend_count q first len l ≡ Is (length (reported q first l.part))
+    pub count-accepted : mend_count q first len l ≡ Ok (length (reported q first l.part))
     unfolding mend_count
-    count-accepted = result-given _ _ (length (reported q first l.part)) ok
+    count-accepted = given-accepted (length (reported q first l.part)) ok
 
     pub left-accepted : mend_left q first len l ≡ mended_lists q first l
     unfolding mend_left

@@ -9,11 +9,10 @@ use mathlib.Core.List.{List, [], ◌++◌}
 use lib.Dec.{leb}
 use borrow.Author.Tests.{le-leb, lt-leb, leb-true}
 use Rattle.general.proofs.TestLaws.{and_left, and_right, and_both}
-use Rattle.refusal.specs.declared.Refusal.{Refusal}
+use Rattle.refusal.specs.declared.Fault.{Fault}
 use Rattle.refusal.specs.declared.Refusal.TheVariants.{BufferLength, OutputLength}
-use Rattle.refusal.specs.declared.Answer.{Answer}
-use Rattle.refusal.specs.declared.Answer.TheVariants.{Accepted, Refused}
-use Rattle.refusal.specs.Checks.{in_order}
+use Rattle.std.specs.Prelude.{Err}
+use Rattle.refusal.specs.Checks.{in_order, Answer, Accepted, Refused}
 use Rattle.refusal.proofs.CheckLaws.{in_order-nil, in_order-next, in_order-stop, in_order-passed, in_order-refused, in_order-front, in_order-back, in_order-held, in_order-rest}
 use Rattle.layout.specs.declared.CubeLayout.{CubeLayout}
 use Rattle.layout.specs.Geometry.{cube_extent}
@@ -53,9 +52,9 @@ module _ (q : CubeLayout) (first len n positions olds : ℕ) where
   abbrev frame : List Answer
   frame = layout_checks q ++ room_checks q len
 
-  pub mend-refused : (r : Refusal) (at : ℕ) → in_order (layout_checks q) ≡ Refused r at → in_order (mend_checks q first len n positions olds) ≡ Refused r at
+  pub mend-refused : (f : Fault) → in_order (layout_checks q) ≡ Err f → in_order (mend_checks q first len n positions olds) ≡ Err f
   unfolding mend_checks
-  mend-refused r at e = in_order-refused frame (both first len n positions olds) (in_order-refused (layout_checks q) (room_checks q len) e)
+  mend-refused f e = in_order-refused frame (both first len n positions olds) (in_order-refused (layout_checks q) (room_checks q len) e)
 
   pub mend-short : in_order (layout_checks q) ≡ Accepted → len < q.start + cube_extent q → in_order (mend_checks q first len n positions olds) ≡ Refused BufferLength 0
   unfolding mend_checks

@@ -6,9 +6,8 @@ use mathlib.Core.Logic.{◌↔◌}
 use mathlib.Core.List.{List}
 use lib.ListN.{length, get_or}
 use lib.IntN.{ℤ}
-use Rattle.refusal.specs.declared.Answer.TheVariants.{Accepted}
-use Rattle.refusal.specs.declared.Quantity.TheVariants.{Is}
-use Rattle.refusal.specs.Checks.{in_order}
+use Rattle.std.specs.Prelude.{Ok}
+use Rattle.refusal.specs.Checks.{in_order, Accepted}
 use Rattle.refusal.proofs.CheckLaws.{in_order-front}
 use Rattle.elements.specs.Values.{value_checks}
 use Rattle.layout.specs.declared.CubeLayout.{CubeLayout}
@@ -60,7 +59,7 @@ module _ (q : CubeLayout) (first len : ℕ) (l : Lent) (accepted : mend_answer q
   report-ascending = subst⁻¹ (Ascending first) given (place.rising q first l.part)
 
   pub second_none : (positions olds : List ℕ) → let again = lent (mend_left q first len l).part positions olds in
-      Roomy again → (mend_count q first len again ≡ Is 0) × (mend_left q first len again ≡ again)
+      Roomy again → (mend_count q first len again ≡ Ok 0) × (mend_left q first len again ≡ again)
   second_none positions olds r =
       let again = lent (mend_left q first len l).part positions olds in
       clean-call q len first again (accepted-part q len first l first again accepted (subst⁻¹ (λ (n : ℕ). first + n ≤ len) length-kept held.part_le) r)
@@ -111,7 +110,7 @@ module _ (q : CubeLayout) (raw : List ℤ) (before : List ℕ) (accepted : pack_
       })
 
   pub packed-clean : (positions olds : List ℕ) → let packed = lent (pack_buffer q raw before) positions olds in
-      Roomy packed → (mend_count q 0 (length before) packed ≡ Is 0) × (mend_left q 0 (length before) packed ≡ packed)
+      Roomy packed → (mend_count q 0 (length before) packed ≡ Ok 0) × (mend_left q 0 (length before) packed ≡ packed)
   packed-clean positions olds r =
       let packed = lent (pack_buffer q raw before) positions olds in
       clean-call q (length before) 0 packed (taken packed (pack.length-kept q raw before accepted) r) (read.packed-clean q raw before accepted)

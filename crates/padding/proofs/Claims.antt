@@ -9,8 +9,8 @@ use mathlib.Core.Logic.{◌↔◌}
 use mathlib.Core.List.{List}
 use lib.ListN.{length, get_or}
 use lib.IntN.{ℤ}
-use Rattle.refusal.specs.declared.Answer.TheVariants.{Accepted}
-use Rattle.refusal.specs.declared.Quantity.TheVariants.{Is}
+use Rattle.std.specs.Prelude.{Ok}
+use Rattle.refusal.specs.Checks.{Accepted}
 use Rattle.layout.specs.declared.CubeLayout.{CubeLayout}
 use Rattle.layout.specs.Places.{PaddingByte}
 use Rattle.layout.specs.Calls.{pack_answer, pack_buffer, unpack_answer, unpack_elements}
@@ -36,7 +36,7 @@ module _ (q : CubeLayout) (first len : ℕ) (l : Lent) (accepted : mend_answer q
   report-ascending = law.report-ascending q first len l accepted
 
   pub second_none : (positions olds : List ℕ) → let again = lent (mend_left q first len l).part positions olds in
-      Roomy again → (mend_count q first len again ≡ Is 0) × (mend_left q first len again ≡ again)
+      Roomy again → (mend_count q first len again ≡ Ok 0) × (mend_left q first len again ≡ again)
   second_none = law.second_none q first len l accepted
 
   pub restored : written_back first (report_given q first len l) (mend_left q first len l).part ≡ l.part
@@ -54,5 +54,5 @@ module _ (q : CubeLayout) (l : Lent) (accepted : mend_answer q 0 (length l.part)
 
 module _ (q : CubeLayout) (raw : List ℤ) (before : List ℕ) (accepted : pack_answer q raw (length before) ≡ Accepted) where
   pub packed-clean : (positions olds : List ℕ) → let packed = lent (pack_buffer q raw before) positions olds in
-      Roomy packed → (mend_count q 0 (length before) packed ≡ Is 0) × (mend_left q 0 (length before) packed ≡ packed)
+      Roomy packed → (mend_count q 0 (length before) packed ≡ Ok 0) × (mend_left q 0 (length before) packed ≡ packed)
   packed-clean = law.packed-clean q raw before accepted

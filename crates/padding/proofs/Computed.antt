@@ -4,9 +4,9 @@ use mathlib.Core.Path.{◌≡◌, refl}
 use mathlib.Core.List.{List, [], ◌∷◌, ◌++◌, map}
 use lib.ListN.{replicate}
 use Rattle.refusal.specs.Codes.{answer_code}
-use Rattle.refusal.specs.Checks.{require_at, in_order, leaves, result}
+use Rattle.refusal.specs.Checks.{require_at, in_order, leaves, given}
 use Rattle.refusal.specs.Sizes.{size_valid}
-use Rattle.refusal.specs.declared.Quantity.TheVariants.{Is}
+use Rattle.std.specs.Prelude.{Ok}
 use Rattle.elements.specs.Bytes.{element_bytes}
 use Rattle.elements.specs.Lists.{remade_from}
 use Rattle.layout.specs.declared.CubeLayout.{CubeLayout}
@@ -78,7 +78,7 @@ pub record Computed : Type 0 where
   -- and its answers: a file of 480 bytes is taken, 479 is 5; surface 224 is taken, 192 is 3
   pub paper_answers : code frame 0 480 (loan 2 2 2) ∷ code frame 0 479 (loan 2 2 2) ∷ code (layout_of 3 2 40 0 128 224 0) 0 480 (loan 2 2 2) ∷ code (layout_of 3 2 40 0 128 192 0) 0 480 (loan 2 2 2) ∷ [] ≡ 0 ∷ 5 ∷ 0 ∷ 3 ∷ []
   -- a call: its answer, what it leaves, the places past the report stay
-  pub count : mend_count small 62 192 (loan 6 6 6) ≡ Is 3
+  pub count : mend_count small 62 192 (loan 6 6 6) ≡ Ok 3
   pub left : mend_left small 62 192 (loan 6 8 7) ≡ lent (0 ∷ 0 ∷ 9 ∷ 9 ∷ 9 ∷ 0 ∷ []) (62 ∷ 63 ∷ 67 ∷ 7 ∷ 7 ∷ 7 ∷ 7 ∷ 7 ∷ []) (9 ∷ 9 ∷ 9 ∷ 8 ∷ 8 ∷ 8 ∷ 8 ∷ [])
   pub given : report_given small 66 192 (loan 2 4 4) ≡ record { position = 67; old = 9 } ∷ []
   pub back : written_back 62 (record { position = 62; old = 5 } ∷ record { position = 67; old = 7 } ∷ []) (replicate 6 0) ≡ 5 ∷ 0 ∷ 0 ∷ 0 ∷ 0 ∷ 7 ∷ []
@@ -93,7 +93,7 @@ pub record Computed : Type 0 where
   pub ends : code small 187 192 (loan 5 5 5) ∷ code small 192 192 (loan 0 0 0) ∷ code small 193 192 (loan 0 0 0) ∷ code small (2 ^ 64 - 1) (2 ^ 64 - 1) (loan 1 1 1) ∷ [] ≡ 0 ∷ 0 ∷ 5 ∷ 5 ∷ []
 
 pub computed : Computed
-unfolding require_at in_order leaves result size_valid element_bytes remade_from surfaces cube_extent surface_of row_of column_of byte_in_atom in_atom atom_owner owner sizes_valid whole_atoms strides_valid layout_checks mended_byte mended is_dirty reported mend_checks mend_answer mend_count filled mended_lists mend_left lines first_lines written_back
+unfolding require_at in_order leaves given size_valid element_bytes remade_from surfaces cube_extent surface_of row_of column_of byte_in_atom in_atom atom_owner owner sizes_valid whole_atoms strides_valid layout_checks mended_byte mended is_dirty reported mend_checks mend_answer mend_count filled mended_lists mend_left lines first_lines written_back
 computed =
     record {
       atom = refl;

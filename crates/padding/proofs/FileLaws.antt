@@ -10,8 +10,8 @@ use mathlib.Core.Bool.{Bool, true, false, cond}
 use mathlib.Core.List.{List, [], ◌∷◌, ◌++◌, flatten}
 use lib.ListN.{length, set, length-append}
 use lib.Seq.{set-append_seam, append_snoc}
-use Rattle.refusal.specs.declared.Answer.TheVariants.{Accepted}
-use Rattle.refusal.specs.declared.Quantity.TheVariants.{Is}
+use Rattle.std.specs.Prelude.{Ok}
+use Rattle.refusal.specs.Checks.{Accepted}
 use Rattle.layout.specs.declared.CubeLayout.{CubeLayout}
 use Rattle.layout.specs.Owners.{owner}
 use Rattle.padding.specs.Mending.{Dirt, mended_byte, mended, is_dirty, reported}
@@ -64,11 +64,11 @@ module _ (q : CubeLayout) (len : ℕ) where
 
   -- ---- bytes of which none is reported
 
-  pub clean-call : (first : ℕ) (l : Lent) → mend_answer q first len l ≡ Accepted → Clean q first l.part → (mend_count q first len l ≡ Is 0) × (mend_left q first len l ≡ l)
+  pub clean-call : (first : ℕ) (l : Lent) → mend_answer q first len l ≡ Accepted → Clean q first l.part → (mend_count q first len l ≡ Ok 0) × (mend_left q first len l ≡ l)
   unfolding mended_lists filled
   clean-call first l ok c =
       let none = clean-reported q first l.part c in (
-        count-accepted q first len l ok ∙ ap (λ (r : List Dirt). Is (length r)) none,
+        count-accepted q first len l ok ∙ ap (λ (r : List Dirt). Ok (length r)) none,
         left-accepted q first len l ok ∙ simp (none, clean-mended q first l.part c) refl,
       )
 

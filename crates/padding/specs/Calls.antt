@@ -2,9 +2,7 @@
 -- refused, every lent list stays as it was. Assumes nothing.
 use Rattle.std.specs.Prelude.{ℕ, ◌+◌, ◌&&◌, List, [], ◌∷◌, ◌++◌, map, leb, length, drop}
 use Rattle.refusal.specs.declared.Refusal.TheVariants.{BufferLength, OutputLength}
-use Rattle.refusal.specs.declared.Answer.{Answer}
-use Rattle.refusal.specs.declared.Quantity.{Quantity}
-use Rattle.refusal.specs.Checks.{require, in_order, leaves, quantity}
+use Rattle.refusal.specs.Checks.{require, in_order, leaves, quantity, Answer, Quantity}
 use Rattle.layout.specs.declared.CubeLayout.{CubeLayout}
 use Rattle.layout.specs.Rules.{layout_checks, room_checks}
 use Rattle.padding.specs.Mending.{Dirt, mended, reported}

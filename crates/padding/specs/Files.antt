@@ -1,10 +1,8 @@
 -- The words of the claims about mending (proofs/Claims.antt): a report as its reader has it, a file mended part by part, old values written back (change
 -- request K8). Assumes nothing.
-use Rattle.std.specs.Prelude.{ℕ, suc, ◌+◌, ◌-◌, ◌≤◌, ◌<◌, ◌≡◌, ◌⊎◌, ◌≢◌, length, get_or, take, set}
+use Rattle.std.specs.Prelude.{ℕ, suc, ◌+◌, ◌-◌, ◌≤◌, ◌<◌, ◌≡◌, ◌⊎◌, ◌≢◌, length, get_or, take, set, Ok, Err}
 use mathlib.Core.List.{List, [], ◌∷◌, ◌++◌, map, flatten}
-use Rattle.refusal.specs.declared.Answer.TheVariants.{Accepted}
-use Rattle.refusal.specs.declared.Quantity.{Quantity}
-use Rattle.refusal.specs.declared.Quantity.TheVariants.{Is, Refused}
+use Rattle.refusal.specs.Checks.{Accepted, Quantity}
 use Rattle.layout.specs.declared.CubeLayout.{CubeLayout}
 use Rattle.layout.specs.Places.{PaddingByte}
 use Rattle.padding.specs.Mending.{Dirt}
@@ -18,8 +16,8 @@ lines (p ∷ positions) (v ∷ olds) = record { position = p; old = v } ∷ line
 
 -- the report that a call gives: so many of the first places, as its answer says
 unfoldable pub first_lines : Quantity → Lent → List Dirt
-first_lines (Is n) l = lines (take n l.positions) (take n l.olds)
-first_lines (Refused r at) l = []
+first_lines (Ok n) l = lines (take n l.positions) (take n l.olds)
+first_lines (Err fault) l = []
 
 abbrev pub report_given : CubeLayout → ℕ → ℕ → Lent → List Dirt
 report_given q first len l = first_lines (mend_count q first len l) (mend_left q first len l)
