@@ -13,10 +13,10 @@ use mathlib.Core.List.{List}
 use mathlib.Core.Logic.{◌≢◌}
 use lib.ListN.{length}
 use borrow.Author.Tests.{le-leb, eq-eqb}
-use Rattle.refusal.specs.declared.Answer.TheVariants.{Accepted, Refused}
-use Rattle.refusal.specs.declared.Refusal.{Refusal}
+use Rattle.std.specs.Prelude.{Err}
+use Rattle.refusal.specs.declared.Fault.{Fault}
 use Rattle.refusal.specs.declared.Refusal.TheVariants.{ElementCount, BufferLength, OwnerId}
-use Rattle.refusal.specs.Checks.{in_order}
+use Rattle.refusal.specs.Checks.{in_order, Accepted, Refused}
 use Rattle.refusal.proofs.CheckLaws.{in_order-next, in_order-front, in_order-back, in_order-passed, leaves-done, leaves-before}
 use Rattle.layout.specs.declared.ElementBox.{ElementBox}
 use Rattle.layout.specs.Geometry.{cube_extent}
@@ -77,7 +77,7 @@ module _ (t : RegionTable) (n id : ℕ) (image : PixelSetting) (pixels : List �
     unfolding paint_buffer edit_buffer
     paint-writes = leaves-done _ before ok ∙ sym (leaves-done _ before paint-edits)
 
-  pub paint-kept : {r : Refusal} {i : ℕ} → paint_answer t n id image (length pixels) k (length before) ≡ Refused r i → paint_buffer t n id image pixels k before ≡ before
+  pub paint-kept : {f : Fault} → paint_answer t n id image (length pixels) k (length before) ≡ Err f → paint_buffer t n id image pixels k before ≡ before
   unfolding paint_buffer
   paint-kept e = leaves-before _ before e
 

@@ -5,11 +5,10 @@ use mathlib.Core.Path.{◌≡◌, refl}
 use mathlib.Core.List.{List, [], ◌∷◌, ◌++◌, map}
 use lib.IntN.{ℤ, pos}
 use lib.ListN.{replicate, take}
-use Rattle.refusal.specs.declared.Quantity.{Quantity}
-use Rattle.refusal.specs.declared.Quantity.TheVariants.{Is, Refused as NotGiven}
+use Rattle.std.specs.Prelude.{Ok, Err}
 use Rattle.refusal.specs.declared.Refusal.TheVariants.{BufferLength, OwnerId, PixelLength}
 use Rattle.refusal.specs.Codes.{answer_code}
-use Rattle.refusal.specs.Checks.{require_at, in_order, leaves, result}
+use Rattle.refusal.specs.Checks.{require_at, in_order, leaves, given, Quantity, refused_at}
 use Rattle.refusal.specs.Sizes.{size_valid}
 use Rattle.elements.specs.Bytes.{element_bytes, byte_of, word_at, signed}
 use Rattle.elements.specs.Lists.{remade_from, remade, tabulate_from, tabulate}
@@ -110,15 +109,15 @@ pub record Computed : Type 0 where
   pub ten : after 1 1 (255 ∷ 255 ∷ []) ≡ 255 ∷ 3 ∷ replicate 30 7
   -- doubled, 0, 255, 1 of one pixel and 200, 50, 0, 255 of another are beyond the limits: seven components, and no byte before or behind the pixels; 128 less
   -- is -128 and 127 at most, on the limits, and nothing is held
-  pub counted : holding 7 pixels doubled 192 ≡ Is 7
-  pub on_limits : holding 7 pixels centred 192 ≡ Is 0
+  pub counted : holding 7 pixels doubled 192 ≡ Ok 7
+  pub on_limits : holding 7 pixels centred 192 ≡ Ok 0
   pub doubled_bytes : paint_buffer table 0 7 camera pixels doubled (replicate 192 7)
       ≡ replicate 32 7 ++ 0 ∷ 2 ∷ 4 ∷ 6 ∷ replicate 28 7 ++ 128 ∷ 127 ∷ 254 ∷ 128 ∷ replicate 28 7
       ++ replicate 32 7 ++ 240 ∷ 220 ∷ 200 ∷ 180 ∷ replicate 28 7 ++ 127 ∷ 128 ∷ 128 ∷ 127 ∷ replicate 28 7
   -- a refused painting has no count: another owner, a pixel byte too few, a byte of the frame too few
-  pub uncounted : holding 8 pixels doubled 192 ∷ holding 7 (take 43 pixels) doubled 192 ∷ holding 7 pixels doubled 191 ∷ [] ≡ NotGiven OwnerId 0 ∷ NotGiven PixelLength 0 ∷ NotGiven BufferLength 0 ∷ []
+  pub uncounted : holding 8 pixels doubled 192 ∷ holding 7 (take 43 pixels) doubled 192 ∷ holding 7 pixels doubled 191 ∷ [] ≡ Err (refused_at 0 OwnerId) ∷ Err (refused_at 0 PixelLength) ∷ Err (refused_at 0 BufferLength) ∷ []
   -- 300 is beyond int8 and not beyond int16: the frame's precision counts, not the picture's
-  pub by_precision : map (λ (p : ℕ). paint_held (single p) 0 3 (one 3) (44 ∷ 1 ∷ []) plain 32) (0 ∷ 1 ∷ []) ≡ Is 1 ∷ Is 0 ∷ []
+  pub by_precision : map (λ (p : ℕ). paint_held (single p) 0 3 (one 3) (44 ∷ 1 ∷ []) plain 32) (0 ∷ 1 ∷ []) ≡ Ok 1 ∷ Ok 0 ∷ []
   -- the last pixel ends at byte 44: 43 bytes are 30; one pixel T_R8 with a line of 32 needs one byte
   pub end : image_end camera ≡ 44
   pub length : asking table 7 camera 44 0 192 ∷ asking table 7 camera 43 0 192 ∷ [] ≡ 0 ∷ 30 ∷ []
@@ -153,7 +152,7 @@ pub record Computed : Type 0 where
       ≡ 25 ∷ 9 ∷ 25 ∷ 9 ∷ 9 ∷ 5 ∷ []
 
 pub computed : Computed
-unfolding require_at in_order leaves result size_valid element_bytes byte_of word_at signed remade_from remade tabulate_from tabulate saturate beyond surfaces cube_extent box_count span_inside span_has box_has box_index channel_at row_at column_at sizes_valid whole_atoms strides_valid layout_checks surface_of row_of column_of byte_in_atom in_atom atom_owner owner edited_byte edited format_table format_in format_of kind_valid lines_valid setting_checks pixel_position lowest highest quantize_checks nearest_of nearest rounded quantized limited slot_of slots_of rectangle_has occupied any_from overlaps rectangle_inside slot_at is_filled rectangle_of id_of place_checks box_in_rectangle slot_checks region_box_checks place_answer place_table component_bytes component_value component_at component painted_elements total held_one pixel_held row_held held_count kind_taken image_end fills_rectangle picture_checks target_checks paint_checks paint_answer paint_held paint_buffer
+unfolding require_at in_order leaves given size_valid element_bytes byte_of word_at signed remade_from remade tabulate_from tabulate saturate beyond surfaces cube_extent box_count span_inside span_has box_has box_index channel_at row_at column_at sizes_valid whole_atoms strides_valid layout_checks surface_of row_of column_of byte_in_atom in_atom atom_owner owner edited_byte edited format_table format_in format_of kind_valid lines_valid setting_checks pixel_position lowest highest quantize_checks nearest_of nearest rounded quantized limited slot_of slots_of rectangle_has occupied any_from overlaps rectangle_inside slot_at is_filled rectangle_of id_of place_checks box_in_rectangle slot_checks region_box_checks place_answer place_table component_bytes component_value component_at component painted_elements total held_one pixel_held row_held held_count kind_taken image_end fills_rectangle picture_checks target_checks paint_checks paint_answer paint_held paint_buffer
 computed =
     record {
       painted = refl;

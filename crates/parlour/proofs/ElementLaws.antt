@@ -13,8 +13,7 @@ use lib.IntN.{ℤ, pos}
 use lib.Signed.{mag}
 use mir.Syntax.{w8}
 use mir.Facts.{sfits_lit}
-use Rattle.refusal.specs.declared.Answer.TheVariants.{Accepted}
-use Rattle.refusal.specs.Checks.{in_order}
+use Rattle.refusal.specs.Checks.{in_order, Accepted}
 use Rattle.elements.specs.Bytes.{element_bytes}
 use Rattle.elements.specs.Values.{SixteenBit, value_valid, value_checks}
 use Rattle.elements.proofs.TabulateLaws.{length-tabulate, get_d_tabulate}

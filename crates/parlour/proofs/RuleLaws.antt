@@ -10,10 +10,10 @@ use mathlib.Core.List.{[]}
 use lib.Dec.{eqb}
 use borrow.Author.Tests.{leb-true, eqb-true, le-leb, lt-leb}
 use Rattle.general.proofs.TestLaws.{and_left, and_right}
-use Rattle.refusal.specs.declared.Answer.TheVariants.{Accepted, Refused}
-use Rattle.refusal.specs.declared.Refusal.{Refusal}
+use Rattle.std.specs.Prelude.{Err}
+use Rattle.refusal.specs.declared.Fault.{Fault}
 use Rattle.refusal.specs.declared.Refusal.TheVariants.{BufferLength, Bounds, ImageKind, PixelLength}
-use Rattle.refusal.specs.Checks.{in_order}
+use Rattle.refusal.specs.Checks.{in_order, Accepted, Refused}
 use Rattle.refusal.proofs.CheckLaws.{in_order-nil, in_order-next, in_order-stop, in_order-held, in_order-rest, in_order-front, in_order-back, in_order-passed, in_order-refused}
 use Rattle.layout.specs.declared.CubeLayout.{CubeLayout}
 use Rattle.layout.specs.Geometry.{cube_extent}
@@ -48,7 +48,7 @@ module _ (q : CubeLayout) (image : PixelSetting) (shift given : ℕ) where
         room = leb-true (image_end image) given (in_order-held 0 PixelLength _ _ (in_order-back (quantize_checks q.precision shift) _ rest));
       }
 
-  pub picture-setting : {r : Refusal} {i : ℕ} → setting_answer image ≡ Refused r i → Refused r i ≡ in_order (picture_checks q image shift given)
+  pub picture-setting : {f : Fault} → setting_answer image ≡ Err f → Err f ≡ in_order (picture_checks q image shift given)
   unfolding picture_checks setting_answer
   picture-setting e = sym (in_order-refused (setting_checks image) _ e)
 
@@ -58,7 +58,7 @@ module _ (q : CubeLayout) (image : PixelSetting) (shift given : ℕ) where
     picture-kind e = sym (in_order-passed (setting_checks image) _ ok ∙ in_order-stop 0 ImageKind _ e)
 
     module _ (kind : kind_taken q image ≡ true) where
-      pub picture-conversion : {r : Refusal} {i : ℕ} → in_order (quantize_checks q.precision shift) ≡ Refused r i → Refused r i ≡ in_order (picture_checks q image shift given)
+      pub picture-conversion : {f : Fault} → in_order (quantize_checks q.precision shift) ≡ Err f → Err f ≡ in_order (picture_checks q image shift given)
       unfolding picture_checks setting_answer
       picture-conversion e = sym (in_order-passed (setting_checks image) _ ok ∙ in_order-next 0 ImageKind _ kind ∙ in_order-refused (quantize_checks q.precision shift) _ e)
 
@@ -108,7 +108,7 @@ module _ (a : Access) (image : PixelSetting) (len : ℕ) where
         room = leb-true (a.layout.start + cube_extent a.layout) len (in_order-held 0 BufferLength _ _ (in_order-rest 0 Bounds _ _ rest));
       }
 
-  pub target-region : {r : Refusal} {i : ℕ} → in_order (region_box_checks a (whole_region a)) ≡ Refused r i → Refused r i ≡ in_order (target_checks a image len)
+  pub target-region : {f : Fault} → in_order (region_box_checks a (whole_region a)) ≡ Err f → Err f ≡ in_order (target_checks a image len)
   unfolding target_checks
   target-region e = sym (in_order-refused (region_box_checks a (whole_region a)) _ e)
 

@@ -1,9 +1,7 @@
 -- What painting a region from a camera's picture answers and leaves (change requests K3, K5). Where it is refused, the buffer stays as it was and there is
 -- no count; the table is handed back as it came, always. Assumes nothing.
 use Rattle.std.specs.Prelude.{ℕ, List, length}
-use Rattle.refusal.specs.declared.Answer.{Answer}
-use Rattle.refusal.specs.declared.Quantity.{Quantity}
-use Rattle.refusal.specs.Checks.{in_order, leaves, quantity}
+use Rattle.refusal.specs.Checks.{in_order, leaves, quantity, Answer, Quantity}
 use Rattle.layout.specs.Contents.{edited}
 use Rattle.pixels.specs.declared.PixelSetting.{PixelSetting}
 use Rattle.regions.specs.declared.RegionTable.{RegionTable}

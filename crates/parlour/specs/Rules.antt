@@ -1,8 +1,7 @@
 -- The checks of painting a region, in their order (change request K3). Assumes nothing.
 use Rattle.std.specs.Prelude.{ℕ, ◌+◌, ◌-◌, Bool, not, ◌&&◌, List, ◌∷◌, [], ◌++◌, leb, eqb}
 use Rattle.refusal.specs.declared.Refusal.TheVariants.{Bounds, ImageKind, PixelLength}
-use Rattle.refusal.specs.declared.Answer.{Answer}
-use Rattle.refusal.specs.Checks.{require}
+use Rattle.refusal.specs.Checks.{require, Answer}
 use Rattle.layout.specs.declared.CubeLayout.{CubeLayout}
 use Rattle.layout.specs.Rules.{room_checks}
 use Rattle.pixels.specs.declared.PixelSetting.{PixelSetting}

@@ -14,7 +14,7 @@ pub struct Conversion {
 }
 
 // How many components were held at a limit, or refused with the index at fault; and the table as it came.
-#[derive(Drop)]
+#[derive(Clone, Copy)]
 pub struct PaintOutcome {
     pub held: Quantity,
     pub table: RegionTable,
