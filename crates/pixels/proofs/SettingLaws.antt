@@ -1,60 +1,31 @@
--- The checks as the code goes through them, one after another: 19, 1, 20, 21, 22 of a setting, and 23 of a pixel. Assumes nothing.
---     check-format .. check-valid            a setting, up to the first check that fails
---     position-refused .. position-is        a pixel of a refused setting, outside, and inside the image
+-- The checks of a setting, 19, 1, 20, 21, 22, and 23 of a pixel. Assumes nothing.
+--     check-valid                            a setting whose checks hold
+--     position-refused, position-is          a pixel of a refused setting, and one inside the image
 --     position-given                         what a position given tells
 use Prim.Native.Nat.{ℕ, ◌≤◌, ◌<◌}
 use mathlib.Core.Path.{◌≡◌, sym, ◌∙◌}
-use mathlib.Core.Bool.{true, false}
+use mathlib.Core.Bool.{true}
 use mathlib.Core.List.{[], ◌∷◌}
 use lib.Dec.{ltb}
-use borrow.Author.Tests.{lt-ltb, le-ltb, le-leb, lt-leb, ltb-true}
+use borrow.Author.Tests.{lt-ltb, le-leb, ltb-true}
 use Rattle.general.proofs.TestLaws.{and-all}
 use Rattle.std.specs.Prelude.{Ok, Err}
 use Rattle.refusal.specs.declared.Fault.{Fault}
-use Rattle.refusal.specs.declared.Refusal.TheVariants.{Size, PixelFormat as FormatCode, PixelKind, XOffset, PixelStrides, PixelOutside}
-use Rattle.refusal.specs.Checks.{in_order, require_at, Accepted, Refused, refused_at}
+use Rattle.refusal.specs.declared.Refusal.TheVariants.{PixelOutside}
+use Rattle.refusal.specs.Checks.{in_order, require_at, Accepted}
 use Rattle.refusal.specs.Sizes.{size_valid}
-use Rattle.refusal.proofs.CheckLaws.{Held, in_order-all, require_at-held, in_order-nil, in_order-next, in_order-stop, in_order-passed, in_order-refused, in_order-front, in_order-back, given-accepted, given-refused, given-ok}
+use Rattle.refusal.proofs.CheckLaws.{Held, in_order-all, require_at-held, in_order-nil, in_order-next, in_order-passed, in_order-refused, in_order-front, in_order-back, given-accepted, given-refused, given-ok}
 use Rattle.pixels.specs.declared.PixelSetting.{PixelSetting}
 use Rattle.pixels.specs.Formats.{format_of}
 use Rattle.pixels.specs.Places.{InImage}
 use Rattle.pixels.specs.Settings.{kind_valid, strides_valid, setting_checks, setting_answer, pixel_position, position_quantity}
 
--- ---- the checks, in their order
-
-module _ (q : PixelSetting) where
-  pub check-format : 16 < q.format → Refused FormatCode 0 ≡ setting_answer q
-  unfolding setting_answer setting_checks in_order require_at
-  check-format h = rw (lt-leb q.format 16 h)
-
-  module _ (known : q.format ≤ 16) where
-    pub check-width : size_valid 8192 q.width ≡ false → Refused Size 0 ≡ setting_answer q
-    unfolding setting_answer setting_checks in_order require_at
-    check-width e = rw (le-leb q.format 16 known, e)
-
-    module _ (wide : size_valid 8192 q.width ≡ true) where
-      pub check-height : size_valid 8192 q.height ≡ false → Refused Size 0 ≡ setting_answer q
-      unfolding setting_answer setting_checks in_order require_at
-      check-height e = rw (le-leb q.format 16 known, wide, e)
-
-      module _ (high : size_valid 8192 q.height ≡ true) where
-        pub check-kind : kind_valid q ≡ false → Refused PixelKind 0 ≡ setting_answer q
-        unfolding setting_answer setting_checks in_order require_at
-        check-kind e = rw (le-leb q.format 16 known, wide, high, e)
-
-        module _ (kind : kind_valid q ≡ true) where
-          pub check-offset : (format_of q.format).offsets < q.offset → Refused XOffset 0 ≡ setting_answer q
-          unfolding setting_answer setting_checks in_order require_at
-          check-offset h = rw (le-leb q.format 16 known, wide, high, kind, lt-leb q.offset (format_of q.format).offsets h)
-
-          module _ (shifted : q.offset ≤ (format_of q.format).offsets) where
-            pub check-strides : strides_valid q ≡ false → Refused PixelStrides 0 ≡ setting_answer q
-            unfolding setting_answer setting_checks in_order require_at
-            check-strides e = rw (le-leb q.format 16 known, wide, high, kind, le-leb q.offset (format_of q.format).offsets shifted, e)
-
-            pub check-valid : strides_valid q ≡ true → Accepted ≡ setting_answer q
-            unfolding setting_answer setting_checks in_order require_at
-            check-valid e = rw (le-leb q.format 16 known, wide, high, kind, le-leb q.offset (format_of q.format).offsets shifted, e)
+-- ---- every check of a setting held
+pub check-valid : (q : PixelSetting) → q.format ≤ 16 → size_valid 8192 q.width ≡ true → size_valid 8192 q.height ≡ true → kind_valid q ≡ true
+    → q.offset ≤ (format_of q.format).offsets → strides_valid q ≡ true → Accepted ≡ setting_answer q
+unfolding setting_answer setting_checks in_order require_at
+check-valid q known wide high kind shifted e =
+    rw (le-leb q.format 16 known, wide, high, kind, le-leb q.offset (format_of q.format).offsets shifted, e)
 
 -- ---- check 23, and the position
 
@@ -64,27 +35,14 @@ module _ (q : PixelSetting) (x y : ℕ) where
   position-refused e = sym (given-refused _ (in_order-refused (setting_checks q) _ e))
 
   module _ (ok : setting_answer q ≡ Accepted) where
-    pub position-x : q.width ≤ x → Err (refused_at 0 PixelOutside) ≡ position_quantity q x y
+    pub position-is : x < q.width → y < q.height → Ok (pixel_position q x y) ≡ position_quantity q x y
     unfolding position_quantity setting_answer
-    position-x h = sym (given-refused _ (in_order-passed (setting_checks q) _ ok ∙ in_order-stop 0 PixelOutside _ (rw (le-ltb x q.width h))))
-
-    module _ (inside : x < q.width) where
-      pub position-y : q.height ≤ y → Err (refused_at 0 PixelOutside) ≡ position_quantity q x y
-      unfolding position_quantity setting_answer
-      position-y h =
-          sym
-          (given-refused _
-          (in_order-passed (setting_checks q) _ ok
-          ∙ in_order-stop 0 PixelOutside _ (rw (lt-ltb x q.width inside, le-ltb y q.height h))))
-
-      pub position-is : y < q.height → Ok (pixel_position q x y) ≡ position_quantity q x y
-      unfolding position_quantity setting_answer
-      position-is h =
-          sym
-          (given-accepted _
-          (in_order-passed (setting_checks q) _ ok
-          ∙ in_order-next 0 PixelOutside _ (rw (lt-ltb x q.width inside, lt-ltb y q.height h))
-          ∙ in_order-nil))
+    position-is inside h =
+        sym
+        (given-accepted _
+        (in_order-passed (setting_checks q) _ ok
+        ∙ in_order-next 0 PixelOutside _ (rw (lt-ltb x q.width inside, lt-ltb y q.height h))
+        ∙ in_order-nil))
 
   -- a position is given only of a pixel of an accepted image
   pub position-given : (p : ℕ) → position_quantity q x y ≡ Ok p → (setting_answer q ≡ Accepted) × InImage q x y × (p ≡ pixel_position q x y)

@@ -1,32 +1,30 @@
 -- The slots as the code reads them from the table's structs, and the box of the cube as it finds it. Assumes nothing.
 --     slot_at-region, slot_at-table           the slot of a number is what the table's struct stands for
 --     overlaps-table                        the overlap test of a table's structs
---     number_past, filled_is, vacant-is     the tests of a slot, from its number and its flag
---     rectangle-is, owner-is                the rectangle and the id of a filled slot are the struct's
+--     filled_at, owner_at                   the flag and the id of a slot with a number
+--     slots_checked                         the lemmas that the checks of a slot go by
+--     refused-is, accepted-is               what is_err tells of an answer
 --     row_fits, column_fits                 the corner of a box in a rectangle of a valid layout
---     box_in-region .. box_in-at              a box in a rectangle, test after test
---     found_box-slot .. found_part-in         a box in a region, and a part of it, test after test
+--     found_box-slot, found_part-named        a box in a region refused by the slot's checks, and past them
 --     found-refused, found_at               what a box found tells
 --     edit-refused, edit-found              an edit refused by 1 to 4, 8, 9, and past them
 --     read-refused, read_found              a read
 --     position-refused, position-found      a position refused, and given
 --     count-refused, count-found            a count
---     found-counts, found_number            a box that was found has small counts, and its slot is one of the sixteen
+--     found-counts                          a box that was found has small counts
 --     release-refused, release-found        a release refused by 1 to 4, 8, 25, 9, and past them
+--     released_number                       the slot of an accepted release is one of the sixteen
 use Prim.Native.Nat.{ℕ, ◌+◌, ◌*◌, ◌≤◌, ◌<◌}
 use native.Mathlib.Omega.{arith}
 use mathlib.Core.Path.{◌≡◌, refl, sym, ap, subst⁻¹, ◌∙◌}
-use mathlib.Core.Bool.{Bool, true, false, not, cond, ◌&&◌}
+use mathlib.Core.Bool.{Bool, true, false, cond}
 use mathlib.Core.List.{List, map, append_assoc}
 use lib.ListN.{length, get_or, get_or-map}
-use lib.Dec.{ltb}
-use borrow.Author.Tests.{lt-ltb, le-ltb}
 use lib.IntN.{ℤ}
 use Rattle.std.specs.Prelude.{Ok, Err}
 use Rattle.std.specs.Result.{is_err}
 use Rattle.refusal.specs.declared.Fault.{Fault}
-use Rattle.refusal.specs.declared.Refusal.TheVariants.{Bounds}
-use Rattle.refusal.specs.Checks.{require_at, in_order, given, Answer, Accepted, refused_at}
+use Rattle.refusal.specs.Checks.{in_order, given, Answer, Accepted}
 use Rattle.refusal.proofs.CheckLaws.{in_order-passed, in_order-refused, given-accepted, given-refused, given-ok, given-err, leaves-before, in_order-front}
 use Rattle.layout.specs.declared.CubeLayout.{CubeLayout}
 use Rattle.layout.specs.declared.ElementBox.{ElementBox}
@@ -38,9 +36,9 @@ use Rattle.layout.proofs.CallLaws.{box-counts}
 use Rattle.regions.specs.declared.Rectangle.{Rectangle}
 use Rattle.regions.specs.declared.Region.{Region}
 use Rattle.regions.specs.declared.RegionTable.{RegionTable}
-use Rattle.regions.specs.Slots.{Slot, empty, filled, slot_of, slots_of, overlaps, rectangle_inside}
-use Rattle.regions.specs.Rules.{Access, slot_at, is_filled, rectangle_of, id_of, rectangle_named, box_in_rectangle, cube_box, region_box, whole_region, slot_checks, region_box_checks, access_of, read_checks, edit_checks, release_checks}
-use Rattle.regions.specs.Calls.{no_region, edit_answer, edit_buffer, read_answer, read_elements, release_answer, release_table, release_buffer, region_position, region_count}
+use Rattle.regions.specs.Slots.{Slot, empty, filled, slot_of, slots_of, overlaps}
+use Rattle.regions.specs.Rules.{Access, slot_at, is_filled, rectangle_of, id_of, rectangle_named, region_box, whole_region, slot_checks, region_box_checks, access_of, read_checks, edit_checks, release_checks}
+use Rattle.regions.specs.Calls.{no_region, edit_answer, edit_buffer, read_answer, read_elements, release_answer, release_buffer, region_position, region_count}
 use Rattle.regions.proofs.RuleLaws.{ValidBounds, slot-accepted, box-accepted}
 use Rattle.regions.proofs.CallLaws.{box-passes, after-9}
 use Rattle.regions_calls.specs.declared.rules.Part.{Part}
@@ -50,7 +48,7 @@ pub slot_at-region : (l : List Region) (n : ℕ) → slot_of (get_or l n no_regi
 unfolding slot_of slot_at
 slot_at-region l n = sym (get_or-map slot_of l n no_region)
 
-pub slot_at-table : (t : RegionTable) (n : ℕ) → slot_of (get_or t.slots n no_region) ≡ slot_at (slots_of t) n
+slot_at-table : (t : RegionTable) (n : ℕ) → slot_of (get_or t.slots n no_region) ≡ slot_at (slots_of t) n
 unfolding slots_of
 slot_at-table t n = slot_at-region t.slots n
 
@@ -67,21 +65,11 @@ flag-filled g = go g.placed
     go true = refl
     go false = refl
 
-pub number_past : (n : ℕ) (b : Bool) → 16 ≤ n → (ltb n 16 && b) ≡ false
-number_past n b h = rw (le-ltb n 16 h)
-
-module _ (n : ℕ) (low : n < 16) (g : Region) {s : Slot} (there : slot_of g ≡ s) where
-  pub filled_is : (ltb n 16 && is_filled s) ≡ g.placed
-  filled_is = rw (lt-ltb n 16 low) (ap is_filled (sym there) ∙ flag-filled g)
-
-  pub vacant-is : (ltb n 16 && not (is_filled s)) ≡ not g.placed
-  vacant-is = rw (lt-ltb n 16 low) (ap not (ap is_filled (sym there) ∙ flag-filled g))
-
 -- the same, of the slot with a number
 pub filled_at : (t : RegionTable) (n : ℕ) → is_filled (slot_at (slots_of t) n) ≡ (get_or t.slots n no_region).placed
 filled_at t n = ap is_filled (sym (slot_at-table t n)) ∙ flag-filled (get_or t.slots n no_region)
 
-pub rectangle-is : (g : Region) {s : Slot} {id : ℕ} → slot_of g ≡ s → s ≡ filled id (rectangle_of s) → rectangle_of s ≡ g.rectangle
+rectangle-is : (g : Region) {s : Slot} {id : ℕ} → slot_of g ≡ s → s ≡ filled id (rectangle_of s) → rectangle_of s ≡ g.rectangle
 unfolding slot_of rectangle_of
 rectangle-is g {s} {id} there full = go g.placed (there ∙ full)
   where
@@ -89,7 +77,7 @@ rectangle-is g {s} {id} there full = go g.placed (there ∙ full)
     go true e = cc
     go false e = absurd (let z : ◌≡◌ {A = ℕ} 0 1 = cc in omega arith)
 
-pub owner-is : (g : Region) {s : Slot} → slot_of g ≡ s → g.placed ≡ true → id_of s ≡ g.owner
+owner-is : (g : Region) {s : Slot} → slot_of g ≡ s → g.placed ≡ true → id_of s ≡ g.owner
 unfolding slot_of id_of
 owner-is g there t = ap id_of (sym there) ∙ rw t
 
@@ -113,20 +101,6 @@ module _ (q : CubeLayout) (ok : Valid q) (g : Rectangle) (b : ElementBox) (v : V
   pub column_fits : g.column + b.column ≤ 8192
   column_fits = omega (arith, v.box.columns.fit, ok.width_le)
 
-module _ (q : CubeLayout) (g : Rectangle) (b : ElementBox) where
-  pub box_in-region : rectangle_inside q g ≡ false → Err (refused_at 0 Bounds) ≡ box_in q g b
-  unfolding box_in given in_order require_at
-  box_in-region e = rw e
-
-  module _ (inside : rectangle_inside q g ≡ true) where
-    pub box_in-box : box_in_rectangle q g b ≡ false → Err (refused_at 0 Bounds) ≡ box_in q g b
-    unfolding box_in given in_order require_at
-    box_in-box e = rw (inside, e)
-
-    pub box_in-at : box_in_rectangle q g b ≡ true → Ok (cube_box g b) ≡ box_in q g b
-    unfolding box_in given in_order require_at
-    box_in-at e = rw (inside, e)
-
 -- ---- a box in a region
 module _ (a : Access) (b : ElementBox) where
   pub found_box-slot : {f : Fault} → in_order (slot_checks a) ≡ Err f → Err f ≡ found_box a b
@@ -148,7 +122,7 @@ module _ (a : Access) (b : ElementBox) where
   found_at e = let g = given-ok _ _ _ e in (g.0, sym g.1)
 
 -- a part of a region
-pub found_part-in : (a : Access) (part : Part) → in_order (slot_checks a) ≡ Accepted → {g : Rectangle} → rectangle_named a ≡ g → box_in a.layout g (part_box a.layout g part) ≡ found_part a part
+found_part-in : (a : Access) (part : Part) → in_order (slot_checks a) ≡ Accepted → {g : Rectangle} → rectangle_named a ≡ g → box_in a.layout g (part_box a.layout g part) ≡ found_part a part
 found_part-in a part ok e =
     ap (λ (r : Rectangle). box_in a.layout r (part_box a.layout r part)) (sym e) ∙ found_box-in a (part_box a.layout (rectangle_named a) part) ok refl
 
@@ -228,11 +202,11 @@ module _ (t : RegionTable) (n id : ℕ) where
 -- ---- release
 module _ (t : RegionTable) (n id : ℕ) (before : List ℕ) where
   pub release-refused : {f : Fault} → found_box (access_of t n id) (whole_region (access_of t n id)) ≡ Err f
-      → (Err f ≡ release_answer t n id (length before)) × (t ≡ release_table t n id (length before)) × (before ≡ release_buffer t n id before)
-  unfolding release_answer release_checks release_table release_buffer
+      → (Err f ≡ release_answer t n id (length before)) × (before ≡ release_buffer t n id before)
+  unfolding release_answer release_checks release_buffer
   release-refused e =
       let denied = in_order-refused (region_box_checks (access_of t n id) (whole_region (access_of t n id))) _ (found-refused (access_of t n id) (whole_region (access_of t n id)) e) in
-      (sym denied, sym (leaves-before _ t denied), sym (leaves-before _ before denied))
+      (sym denied, sym (leaves-before _ before denied))
 
   pub release-found : {box : ElementBox} → found_box (access_of t n id) (whole_region (access_of t n id)) ≡ Ok box
       → (clear_box_answer t.layout box (length before) ≡ release_answer t n id (length before)) × (clear_box_buffer t.layout box before ≡ release_buffer t n id before)

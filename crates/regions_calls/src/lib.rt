@@ -154,10 +154,10 @@ pub fn release(table: RegionTable, slot: u32, id: u32, buffer: &mut [u8]) -> Out
     if answer.is_err() {
         return Outcome { answer, table };
     }
-    let after = with_slot(table, slot, none());
+    let emptied = with_slot(table, slot, none());
     Outcome {
         answer,
-        table: after,
+        table: emptied,
     }
 }
 
@@ -188,8 +188,8 @@ pub fn position(
 pub fn count(table: RegionTable, slot: u32, id: u32) -> Quantity
     ensures { result ≡ region_count table slot id }
 {
-    let all = rules::find_box(table, slot, id, Part::Whole)?;
-    let elements = all.channels as u64 * all.rows as u64 * all.columns as u64;
+    let whole = rules::find_box(table, slot, id, Part::Whole)?;
+    let elements = whole.channels as u64 * whole.rows as u64 * whole.columns as u64;
     Ok(elements)
 }
 

@@ -8,7 +8,7 @@ pub returns-in_err-all : goal.returns-in_err-all
 returns-in_err-all c =
     let a = c.args in
     let e = release-refused a.table a.slot a.id a.buffer.now (sym c.find_box.ensures ∙ c.in_err-all.was) in
-    record { answered = handed-on c.from_residual.result c.from_residual.ensures.1 ∙ e.0; left = e.2 }
+    record { answered = handed-on c.from_residual.result c.from_residual.ensures.1 ∙ e.0; left = e.1 }
 
 pub returns : goal.returns
 returns c =

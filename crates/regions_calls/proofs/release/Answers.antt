@@ -13,8 +13,8 @@ returns-then-is_err-clause-handed c =
     let e = refused-is c.clear_region-answer.result (sym c.is_err.ensures.value ∙ c.if-is_err.true) in
     release-kept a.table a.slot a.id (length a.buffer.now) (sym c.clear_region-answer.ensures.answered ∙ e.1)
 
-pub with_slot-after-requires : goal.with_slot-after-requires
-with_slot-after-requires c =
+pub with_slot-emptied-requires : goal.with_slot-emptied-requires
+with_slot-emptied-requires c =
     let a = c.args in
     let e = accepted-is c.clear_region-answer.result (sym c.is_err.ensures.value ∙ c.if-is_err.false) in
     released_number a.table a.slot a.id (length a.buffer.now) (sym c.clear_region-answer.ensures.answered ∙ e)
@@ -23,5 +23,5 @@ pub returns-clause-handed : goal.returns-clause-handed
 returns-clause-handed c =
     let a = c.args in
     let e = accepted-is c.clear_region-answer.result (sym c.is_err.ensures.value ∙ c.if-is_err.false) in
-    c.with_slot-after.ensures ∙ ap (λ (r : Region). with_slot a.table a.slot r) c.none.ensures
+    c.with_slot-emptied.ensures ∙ ap (λ (r : Region). with_slot a.table a.slot r) c.none.ensures
     ∙ release-left a.table a.slot a.id (length a.buffer.now) (sym c.clear_region-answer.ensures.answered ∙ e)
