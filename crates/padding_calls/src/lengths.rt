@@ -3,7 +3,7 @@ ghost use Rattle.std.specs.Prelude.{◌≡◌, ◌&&◌, ◌++◌, ◌+◌, leb}
 ghost use Rattle.refusal.specs.Checks.{in_order};
 ghost use Rattle.padding.specs.Calls.{part_checks, report_checks};
 
-use refusal::{Answer, Refusal};
+use refusal::{Answer, Fault, Refusal};
 
 // A part of n bytes ends within the file; by a difference, so that nothing wraps.
 fn part_inside(first: u64, length: u64, n: usize) -> bool
@@ -30,10 +30,10 @@ pub(crate) fn check(first: u64, length: u64, n: usize, positions: usize, olds: u
     ensures { result ≡ in_order (part_checks first length n ++ report_checks n positions olds) }
 {
     if !part_inside(first, length, n) {
-        return Answer::Refused(Refusal::BufferLength, 0);
+        return Err(Fault(Refusal::BufferLength, 0));
     }
     if !report_roomy(n, positions, olds) {
-        return Answer::Refused(Refusal::OutputLength, 0);
+        return Err(Fault(Refusal::OutputLength, 0));
     }
-    Answer::Accepted
+    Ok(())
 }

@@ -10,7 +10,7 @@ ghost use Rattle.refusal.specs.Checks.{in_order};
 ghost use Rattle.padding.specs.Calls.{lent, mend_checks, mend_count, mend_left};
 
 use layout::CubeLayout;
-use refusal::{Answer, Quantity, Refusal};
+use refusal::{Answer, Fault, Quantity, Refusal};
 
 // All checks: 1 to 4, 5 for the frame and for the part, 18.
 fn check(
@@ -23,16 +23,11 @@ fn check(
 ) -> Answer
     ensures { result ≡ in_order (mend_checks layout first length n positions olds) }
 {
-    let extent = layout_calls::extent(layout);
-    match extent {
-        Quantity::Refused(refusal, at) => Answer::Refused(refusal, at),
-        Quantity::Is(bytes) => {
-            if length < layout.start as u64 + bytes {
-                return Answer::Refused(Refusal::BufferLength, 0);
-            }
-            lengths::check(first, length, n, positions, olds)
-        }
+    let extent = layout_calls::extent(layout)?;
+    if length < layout.start as u64 + extent {
+        return Err(Fault(Refusal::BufferLength, 0));
     }
+    lengths::check(first, length, n, positions, olds)
 }
 
 // Makes each padding byte of a part of a file zero, and reports those that were not: their positions in the file, ascending, and what stood there; the
@@ -50,15 +45,13 @@ pub fn mend(
     ensures positions_left { positions.new ≡ (mend_left layout first length (lent part.old positions.old olds.old)).positions }
     ensures olds_left { olds.new ≡ (mend_left layout first length (lent part.old positions.old olds.old)).olds }
 {
-    match check(
+    check(
         layout,
         first,
         length,
         part.len(),
         positions.len(),
         olds.len(),
-    ) {
-        Answer::Refused(refusal, at) => Quantity::Refused(refusal, at),
-        Answer::Accepted => Quantity::Is(rows::all(layout, first, part, positions, olds) as u64),
-    }
+    )?;
+    Ok(rows::all(layout, first, part, positions, olds) as u64)
 }

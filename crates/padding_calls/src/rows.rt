@@ -1,7 +1,6 @@
 // The bytes of a part, one stretch after another.
 ghost use Rattle.std.specs.Prelude.{◌≡◌, true, ◌&&◌, ℕ, ◌+◌, ◌%◌, ◌<◌, leb, length, set};
-ghost use Rattle.refusal.specs.declared.Answer.TheVariants.{Accepted};
-ghost use Rattle.refusal.specs.Checks.{in_order};
+ghost use Rattle.refusal.specs.Checks.{in_order, Accepted};
 ghost use Rattle.layout.specs.Rules.{layout_checks};
 ghost use Rattle.padding.specs.Calls.{lent};
 ghost use Rattle.padding_calls.specs.Steps.{Zeros, Room, HasRoom, Mends, Done};

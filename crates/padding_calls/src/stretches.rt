@@ -1,7 +1,6 @@
 // Where padding lies: in the rows of the last surface, behind the elements of each atom.
 ghost use Rattle.std.specs.Prelude.{◌≡◌, ◌-◌, ◌≤◌, ◌<◌};
-ghost use Rattle.refusal.specs.declared.Answer.TheVariants.{Accepted};
-ghost use Rattle.refusal.specs.Checks.{in_order};
+ghost use Rattle.refusal.specs.Checks.{in_order, Accepted};
 ghost use Rattle.layout.specs.Geometry.{surfaces};
 ghost use Rattle.layout.specs.Rules.{layout_checks};
 ghost use Rattle.padding_calls.specs.Steps.{last_surface, elements_end, IsStretch};
