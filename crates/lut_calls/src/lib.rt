@@ -11,7 +11,6 @@ ghost use Rattle.std.specs.Prelude.{◌≡◌, length};
 ghost use Rattle.lut.specs.Calls.{run_answer, run_outputs, run_counters};
 
 use lut::{Counters, LutOutcome, LutSettings};
-use refusal::Answer;
 
 // What answers the samples of one pair of sides. A sample's distance from the origin, in steps of a size, leads by whole steps of 2^shift to a point from
 // base on, where steps count: on is then 1, else 0. Wide is 1 where the row is exponential, else 0.
@@ -60,23 +59,21 @@ pub fn run(
     ensures counted { result.counters ≡ run_counters s xs.now ys.now samples.now (length outputs.old) counters }
     ensures left { outputs.new ≡ run_outputs s xs.now ys.now samples.now counters outputs.old }
 {
-    let a = rules::check(
+    match rules::check(
         s,
         xs.len(),
         ys.len(),
         samples.len(),
         outputs.len(),
         counters,
-    );
-    let Answer::Accepted = a else {
-        return LutOutcome {
-            answer: a,
-            counters: counters,
-        };
-    };
-    let after = samples::answer_all(s, xs, ys, samples, outputs, counters);
-    LutOutcome {
-        answer: Answer::Accepted,
-        counters: after,
+    ) {
+        Err(fault) => LutOutcome {
+            answer: Err(fault),
+            counters,
+        },
+        Ok(()) => LutOutcome {
+            answer: Ok(()),
+            counters: samples::answer_all(s, xs, ys, samples, outputs, counters),
+        },
     }
 }

@@ -7,10 +7,7 @@ ghost use Rattle.lut.specs.Numbers.{log_below};
 pub(crate) fn above_zero(z: i32) -> u32
     ensures { result ≡ up z }
 {
-    if z < 0 {
-        return 0;
-    }
-    z as u32
+    z.max(0) as u32
 }
 
 // -z, or 0 where z is above 0.

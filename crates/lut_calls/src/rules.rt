@@ -6,13 +6,14 @@ ghost use Rattle.lut.specs.Rules.{y_select_valid, y_end_valid, shifts_valid, mod
 
 use crate::numbers;
 use lut::{Counters, LutSettings, XMode, XSettings, YSettings};
-use refusal::{Answer, Refusal};
+use refusal::{Answer, Fault, Refusal};
 
 // Whether z lies in low..=high.
+#[tactic(auto, unfolding(lut::specs::Numbers::between))]
 fn between(low: i32, high: i32, z: i32) -> bool
     ensures { result ≡ between low high z }
 {
-    (low <= z) & (z <= high)
+    (low..=high).contains(&z)
 }
 
 // Whether the select or the offset of the X table is valid.
@@ -40,7 +41,7 @@ fn linear_end(start: i32, end: i32, last: u32, select: i32) -> bool
 {
     let n = scaled(last, select);
     let at = start as i64 + n as i64;
-    (end as i64 <= at) & (at <= end as i64)
+    end as i64 == at
 }
 
 // Whether the end of the X table is valid.
@@ -53,7 +54,7 @@ fn end_valid(s: XSettings) -> bool
     let end = s.end;
     match mode {
         XMode::Linear(select) => linear_end(start, end, 64, select),
-        XMode::Exponential(offset) => 2147483647 <= end,
+        XMode::Exponential(offset) => end == 2147483647,
     }
 }
 
@@ -103,26 +104,26 @@ fn check_tables(s: LutSettings, xs: usize, ys: usize) -> Answer
     ensures { result ≡ in_order (table_checks s xs ys) }
 {
     if xs != 65 {
-        return Answer::Refused(Refusal::TableLength, 0);
+        return Err(Fault(Refusal::TableLength, 0));
     }
     if ys != 257 {
-        return Answer::Refused(Refusal::TableLength, 0);
+        return Err(Fault(Refusal::TableLength, 0));
     }
     let x = s.x;
     let mode = x.mode;
     if !mode_valid(mode) {
-        return Answer::Refused(Refusal::XSelect, 0);
+        return Err(Fault(Refusal::XSelect, 0));
     }
     if !end_valid(x) {
-        return Answer::Refused(Refusal::XEnd, 0);
+        return Err(Fault(Refusal::XEnd, 0));
     }
     if !select_valid(s.y) {
-        return Answer::Refused(Refusal::YSelect, 0);
+        return Err(Fault(Refusal::YSelect, 0));
     }
     if !y_end_valid(s.y) {
-        return Answer::Refused(Refusal::YEnd, 0);
+        return Err(Fault(Refusal::YEnd, 0));
     }
-    Answer::Accepted
+    Ok(())
 }
 
 // The same, then 16, 18, 17.
@@ -136,18 +137,15 @@ pub(crate) fn check(
 ) -> Answer
     ensures { result ≡ in_order (lut_checks s xs ys samples outputs c) }
 {
-    let tables = check_tables(s, xs, ys);
-    let Answer::Accepted = tables else {
-        return tables;
-    };
+    check_tables(s, xs, ys)?;
     if !shifts_valid(s) {
-        return Answer::Refused(Refusal::Shift, 0);
+        return Err(Fault(Refusal::Shift, 0));
     }
     if outputs != samples {
-        return Answer::Refused(Refusal::OutputLength, 0);
+        return Err(Fault(Refusal::OutputLength, 0));
     }
     if !counters_valid(c, samples) {
-        return Answer::Refused(Refusal::Counters, 0);
+        return Err(Fault(Refusal::Counters, 0));
     }
-    Answer::Accepted
+    Ok(())
 }

@@ -5,11 +5,9 @@ use mathlib.Core.Bool.{true}
 use mathlib.Core.List.{List, [], ◌∷◌}
 use lib.Dec.{leb, eqb}
 use borrow.Author.Tests.{eq-eqb, ne_eqb}
-use Rattle.refusal.specs.declared.Answer.{Answer}
-use Rattle.refusal.specs.declared.Answer.TheVariants.{Accepted}
 use Rattle.refusal.specs.declared.Refusal.TheVariants.{Shift, Counters as CounterLimit, OutputLength}
-use Rattle.refusal.specs.Checks.{require, in_order}
-use Rattle.refusal.proofs.CheckLaws.{in_order-nil, in_order-next, in_order-stop, in_order-passed, in_order-refused}
+use Rattle.refusal.specs.Checks.{require, in_order, Answer, Accepted}
+use Rattle.refusal.proofs.CheckLaws.{in_order-nil, in_order-next, in_order-stop, in_order-passed, in_order-refused, handed-on}
 use Rattle.lut.specs.declared.LutSettings.{LutSettings}
 use Rattle.lut.specs.declared.Counters.{Counters}
 use Rattle.lut.specs.Rules.{shifts_valid, counter_sum, table_checks, lut_checks}
@@ -41,30 +39,30 @@ module _ (s : LutSettings) (xs ys samples outputs : ℕ) (k : Counters) where
 
 -- ---- the goals
 
-pub returns-in_default : goal.returns-in_default
+pub returns-in_err-check_tables : goal.returns-in_err-check_tables
 unfolding lut_checks table_checks
-returns-in_default c =
+returns-in_err-check_tables c =
     let a = c.args in
-    let refused = c.in_default.is in
-    refused ∙ sym (in_order-refused (table_checks a.s a.xs a.ys) (from16 a.s a.xs a.ys a.samples a.outputs a.c) (sym c.check_tables-tables.ensures ∙ refused))
+    let refused = c.in_err-check_tables.was in
+    handed-on _ c.from_residual.ensures.1 ∙ sym (in_order-refused (table_checks a.s a.xs a.ys) (from16 a.s a.xs a.ys a.samples a.outputs a.c) (sym c.check_tables.ensures ∙ refused))
 
 pub returns-then-not-shifts_valid : goal.returns-then-not-shifts_valid
 returns-then-not-shifts_valid c =
     let a = c.args in
-    let passed = sym c.check_tables-tables.ensures ∙ c.in-Accepted.is in
+    let passed = sym c.check_tables.ensures ∙ c.in_ok-check_tables.was in
     sym (to16 a.s a.xs a.ys a.samples a.outputs a.c passed ∙ in_order-stop 0 Shift _ (sym c.shifts_valid.ensures ∙ c.if-not-shifts_valid.true))
 
 pub returns-then-outputs-samples : goal.returns-then-outputs-samples
 returns-then-outputs-samples c =
     let a = c.args in
-    let passed = sym c.check_tables-tables.ensures ∙ c.in-Accepted.is in
+    let passed = sym c.check_tables.ensures ∙ c.in_ok-check_tables.was in
     let shifts = sym c.shifts_valid.ensures ∙ c.if-not-shifts_valid.false in
     sym (to18 a.s a.xs a.ys a.samples a.outputs a.c passed shifts ∙ in_order-stop 0 OutputLength _ (ne_eqb _ _ c.if-outputs-samples.true))
 
 pub returns-then-not-counters_valid : goal.returns-then-not-counters_valid
 returns-then-not-counters_valid c =
     let a = c.args in
-    let passed = sym c.check_tables-tables.ensures ∙ c.in-Accepted.is in
+    let passed = sym c.check_tables.ensures ∙ c.in_ok-check_tables.was in
     let shifts = sym c.shifts_valid.ensures ∙ c.if-not-shifts_valid.false in
     sym (to17 a.s a.xs a.ys a.samples a.outputs a.c passed shifts c.if-outputs-samples.false
     ∙ in_order-stop 0 CounterLimit _ (sym c.counters_valid.ensures ∙ c.if-not-counters_valid.true))
@@ -72,7 +70,7 @@ returns-then-not-counters_valid c =
 pub returns : goal.returns
 returns c =
     let a = c.args in
-    let passed = sym c.check_tables-tables.ensures ∙ c.in-Accepted.is in
+    let passed = sym c.check_tables.ensures ∙ c.in_ok-check_tables.was in
     let shifts = sym c.shifts_valid.ensures ∙ c.if-not-shifts_valid.false in
     sym (to17 a.s a.xs a.ys a.samples a.outputs a.c passed shifts c.if-outputs-samples.false
     ∙ in_order-next 0 CounterLimit [] (sym c.counters_valid.ensures ∙ c.if-not-counters_valid.false) ∙ in_order-nil)

@@ -4,9 +4,8 @@ use mathlib.Core.Path.{◌≡◌, sym, ◌∙◌}
 use mathlib.Core.Bool.{true}
 use mathlib.Core.List.{List, [], ◌∷◌}
 use borrow.Author.Tests.{eq-eqb, ne_eqb}
-use Rattle.refusal.specs.declared.Answer.{Answer}
 use Rattle.refusal.specs.declared.Refusal.TheVariants.{TableLength, XSelect, XEnd, YSelect, YEnd}
-use Rattle.refusal.specs.Checks.{require, in_order}
+use Rattle.refusal.specs.Checks.{require, in_order, Answer}
 use Rattle.refusal.proofs.CheckLaws.{in_order-nil, in_order-next, in_order-stop}
 use Rattle.lut.specs.declared.LutSettings.{LutSettings}
 use Rattle.lut.specs.Rules.{y_select_valid, y_end_valid, mode_valid, end_valid, table_checks}

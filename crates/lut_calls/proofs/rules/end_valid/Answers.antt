@@ -2,12 +2,14 @@
 use mathlib.Core.Path.{◌≡◌, refl, ◌∙◌}
 use lib.IntN.{pos, negsuc, ◌+ℤ◌}
 use lib.Dec.{lit≤}
+use mir.Syntax.{w32}
+use mir.Facts.{sfits_lit}
 use Rattle.general.proofs.NumberLaws.{back32}
 use Rattle.lut.specs.Numbers.{scaled}
 use Rattle.lut.specs.Rules.{same_z}
-use Rattle.lut.proofs.AnswerLaws.{mode_valid-linear, end_valid-linear}
+use Rattle.lut.proofs.AnswerLaws.{mode_valid-linear, end_valid-linear, end_valid-exponential}
 use Rattle.lut.proofs.SideLaws.{wider}
-use Rattle.lut.proofs.RuleLaws.{end_valid-last}
+use Rattle.lut.proofs.RuleLaws.{same_bits}
 use Rattle.lut_calls.proofs.rules.end_valid.Goals as goal
 
 pub linear_end-requires : goal.linear_end-requires
@@ -30,8 +32,5 @@ returns-in-Linear c =
     r ∙ end_valid-linear a.s k.in-Linear.select k.in-Linear.is
 
 pub returns-in-Exponential : goal.returns-in-Exponential
-returns-in-Exponential c =
-    let d = c in
-    let a = d.args in
-    let m = d.struct_told-2-1.given.1.1.0.1 in
-    rw (back32 a.s.end m) (end_valid-last a.s c.in-Exponential.offset (record { sfits = m }) c.in-Exponential.is)
+returns-in-Exponential c = let m = c.struct_told-2-1.given.1.1.0.1 in
+    same_bits {w = w32} (record { sfits = m }) (sfits_lit tt) ∙ end_valid-exponential c.args.s c.in-Exponential.offset c.in-Exponential.is

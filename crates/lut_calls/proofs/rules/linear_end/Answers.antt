@@ -1,12 +1,15 @@
 -- `lut_calls::rules::linear_end` meets its contract: the sum stays within 64 bits. Assumes nothing.
 use Prim.Native.Nat.{◌≤◌}
-use mathlib.Core.Path.{◌≡◌, sym, subst}
+use mathlib.Core.Path.{◌≡◌, sym, ap, ap₂, subst, ◌∙◌}
 use Prim.Native.Nat.{ℕ}
+use lib.IntN.{ℤ, pos, ◌+ℤ◌}
 use mir.Syntax.{w64}
+use mir.Val.{SFits}
+use Rattle.lut.specs.Rules.{same_z}
 use mir.Facts.{sfits_widen, to_z-of_z}
 use Rattle.general.proofs.Casts.{cast-value}
 use Rattle.lut.specs.Numbers.{scaled}
-use Rattle.lut.proofs.RuleLaws.{scaled-le, sum_fits, sum-value, count_fits, same_end}
+use Rattle.lut.proofs.RuleLaws.{scaled-le, sum_fits, count_fits, sum_is, same_bits}
 use Rattle.lut_calls.proofs.rules.linear_end.Goals as goal
 
 count_is : (c : goal.After-scaled-n) → c.scaled-n.result ≡ scaled c.args.last c.args.select
@@ -23,7 +26,8 @@ pub overflow_add-at : goal.overflow_add-at
 overflow_add-at c = sum_fits c.ranges.start (count_le c)
 
 pub returns : goal.returns
-returns c = let s = c in
-    let a = s.args in
-    let f = s.ranges.end in
-    rw (← count_is c) (same_end a.start a.end c.scaled-n.result (cast-value {w' = w64} f (sfits_widen tt f)) (sum-value s.ranges.start (count_le c)))
+returns c = let f = c.ranges in
+    let sum = sum_is f.start (count_le c) in
+    let end = cast-value {w' = w64} f.end (sfits_widen tt f.end) in
+    same_bits (subst (λ (z : ℤ). SFits w64 z) (sym (to_z-of_z f.end)) (sfits_widen tt f.end)) (sum_fits f.start (count_le c))
+    ∙ ap₂ same_z (to_z-of_z f.end) (sum ∙ ap (λ (n : ℕ). c.args.start +ℤ pos n) (count_is c))
