@@ -4,127 +4,68 @@ ghost use Rattle.pixels.specs.Formats.{format_of};
 
 use pixels::PixelFormat;
 
+// What formats have, by their channels and the type of one.
+const ONE_INT8: PixelFormat = PixelFormat {
+    channels: 1,
+    bytes: 1,
+    precision: 0,
+    offsets: 31,
+};
+
+const ONE_INT16: PixelFormat = PixelFormat {
+    channels: 1,
+    bytes: 2,
+    precision: 1,
+    offsets: 15,
+};
+
+const ONE_FP16: PixelFormat = PixelFormat {
+    channels: 1,
+    bytes: 2,
+    precision: 2, // fp16: a floating-point image is converted to nothing else
+    offsets: 15,
+};
+
+const FOUR_INT16: PixelFormat = PixelFormat {
+    channels: 4,
+    bytes: 8,
+    precision: 1,
+    offsets: 3,
+};
+
+const FOUR_FP16: PixelFormat = PixelFormat {
+    channels: 4,
+    bytes: 8,
+    precision: 2,
+    offsets: 3,
+};
+
+const FOUR_INT8: PixelFormat = PixelFormat {
+    channels: 4,
+    bytes: 4,
+    precision: 0,
+    offsets: 7,
+};
+
 // The formats, each at its code.
 const FORMATS: [PixelFormat; 17] = [
-    // T_R8
-    PixelFormat {
-        channels: 1,
-        bytes: 1,
-        precision: 0,
-        offsets: 31,
-    },
-    // T_R10
-    PixelFormat {
-        channels: 1,
-        bytes: 2,
-        precision: 1,
-        offsets: 15,
-    },
-    // T_R12
-    PixelFormat {
-        channels: 1,
-        bytes: 2,
-        precision: 1,
-        offsets: 15,
-    },
-    // T_R16
-    PixelFormat {
-        channels: 1,
-        bytes: 2,
-        precision: 1,
-        offsets: 15,
-    },
-    // T_R16_I
-    PixelFormat {
-        channels: 1,
-        bytes: 2,
-        precision: 1,
-        offsets: 15,
-    },
-    // T_R16_F
-    PixelFormat {
-        channels: 1,
-        bytes: 2,
-        precision: 2, // fp16: a floating-point image is converted to nothing else
-        offsets: 15,
-    },
-    // T_A16B16G16R16
-    PixelFormat {
-        channels: 4,
-        bytes: 8,
-        precision: 1,
-        offsets: 3,
-    },
-    // T_X16B16G16R16
-    PixelFormat {
-        channels: 4,
-        bytes: 8,
-        precision: 1,
-        offsets: 3,
-    },
-    // T_A16B16G16R16_F
-    PixelFormat {
-        channels: 4,
-        bytes: 8,
-        precision: 2,
-        offsets: 3,
-    },
-    // T_A16Y16U16V16
-    PixelFormat {
-        channels: 4,
-        bytes: 8,
-        precision: 1,
-        offsets: 3,
-    },
-    // T_V16U16Y16A16
-    PixelFormat {
-        channels: 4,
-        bytes: 8,
-        precision: 1,
-        offsets: 3,
-    },
-    // T_A16Y16U16V16_F
-    PixelFormat {
-        channels: 4,
-        bytes: 8,
-        precision: 2,
-        offsets: 3,
-    },
-    // T_A8B8G8R8
-    PixelFormat {
-        channels: 4,
-        bytes: 4,
-        precision: 0,
-        offsets: 7,
-    },
-    // T_A8R8G8B8
-    PixelFormat {
-        channels: 4,
-        bytes: 4,
-        precision: 0,
-        offsets: 7,
-    },
-    // T_B8G8R8A8
-    PixelFormat {
-        channels: 4,
-        bytes: 4,
-        precision: 0,
-        offsets: 7,
-    },
-    // T_R8G8B8A8
-    PixelFormat {
-        channels: 4,
-        bytes: 4,
-        precision: 0,
-        offsets: 7,
-    },
-    // T_V8U8Y8A8
-    PixelFormat {
-        channels: 4,
-        bytes: 4,
-        precision: 0,
-        offsets: 7,
-    },
+    ONE_INT8, // T_R8
+    ONE_INT16, // T_R10
+    ONE_INT16, // T_R12
+    ONE_INT16, // T_R16
+    ONE_INT16, // T_R16_I
+    ONE_FP16, // T_R16_F
+    FOUR_INT16, // T_A16B16G16R16
+    FOUR_INT16, // T_X16B16G16R16
+    FOUR_FP16, // T_A16B16G16R16_F
+    FOUR_INT16, // T_A16Y16U16V16
+    FOUR_INT16, // T_V16U16Y16A16
+    FOUR_FP16, // T_A16Y16U16V16_F
+    FOUR_INT8, // T_A8B8G8R8
+    FOUR_INT8, // T_A8R8G8B8
+    FOUR_INT8, // T_B8G8R8A8
+    FOUR_INT8, // T_R8G8B8A8
+    FOUR_INT8, // T_V8U8Y8A8
 ];
 
 // The format of a code; a code past the last has none.

@@ -1,4 +1,5 @@
 // The checks of a slot, a placing and a box in a region, each in its order, and the box of the cube that a box of a region is.
+// Table, slot and id stay parameters: a struct of the three is no plainer, since each public call has them apart and would make it for one call.
 ghost use Rattle.std.specs.Prelude.{◌≡◌, ◌&&◌, eqb, ◌<◌, ◌≤◌, get_or, MatchOption};
 ghost use Rattle.refusal.specs.Checks.{Accepted, in_order, given};
 ghost use Rattle.layout.specs.Rules.{layout_checks};
