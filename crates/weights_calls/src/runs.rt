@@ -1,12 +1,15 @@
 // The walk over the runs of a weight tensor: by group, in it by block, in it by kernel. A run is one kernel's channels of one block at all
 // pixels, or, where there is one block, all kernels of a group; it is written and read as one block of columns.
-ghost use Rattle.std.specs.Prelude.{◌≡◌, true, cond, ◌-◌, ◌*◌, ◌<◌, ◌≤◌, min, leb};
+ghost use Rattle.std.specs.Prelude.{◌≡◌, cond, ◌-◌, ◌*◌, ◌<◌, ◌≤◌, min, leb};
 ghost use Rattle.weights.specs.Geometry.{group_size, group_of};
-ghost use Rattle.weights.specs.Rules.{sizes_valid};
 ghost use Rattle.weights_calls.specs.Steps.{AtRun, NextRun, run_columns};
 
+use crate::measure::Tensor;
 use columns::ColumnBlock;
 use weights::WeightLayout;
+
+// Channels of a full block.
+pub(crate) const BLOCK: u32 = 64;
 
 // The first kernel of a group, the channel block, and the run's first kernel in the group.
 #[derive(Clone, Copy)]
@@ -28,7 +31,7 @@ pub(crate) fn group_kernels(layout: WeightLayout, first: u32) -> u32
     requires { first < layout.kernels }
     ensures { result ≡ min (group_of layout) (layout.kernels - first) }
 {
-    general::least(group_size(layout.precision), layout.kernels - first)
+    group_size(layout.precision).min(layout.kernels - first)
 }
 
 // Channels of a run: those of one kernel, or where there is one block, of all kernels of the group.
@@ -43,17 +46,17 @@ fn run_width(layout: WeightLayout, kernels: u32, channels: u32) -> u32
 }
 
 // The columns of a run.
-pub(crate) fn run_columns(layout: WeightLayout, run: Run) -> ColumnBlock
-    requires layout_value { sizes_valid layout ≡ true }
-    requires at_run { AtRun layout run }
-    ensures { result ≡ run_columns layout run }
+pub(crate) fn run_columns(tensor: Tensor, run: Run) -> ColumnBlock
+    requires { AtRun tensor.layout run }
+    ensures { result ≡ run_columns tensor.layout run }
 {
+    let layout = tensor.layout;
     let size = elements::element_bytes(layout.precision);
     let pixels = layout.rows * layout.columns;
     let plane = pixels as usize;
     let kernels = group_kernels(layout, run.first);
     let channel = run.block * 64;
-    let channels = general::least(64, layout.channels - channel);
+    let channels = BLOCK.min(layout.channels - channel);
     let width = run_width(layout, kernels, channels);
     let from = ((run.first + run.kernel) * layout.channels + channel) as usize * plane;
     let number = (run.first * layout.channels + channel * kernels) as usize * plane
@@ -82,11 +85,11 @@ pub(crate) fn run_columns(layout: WeightLayout, run: Run) -> ColumnBlock
 }
 
 // The run behind a run; behind the last one its group has no kernels.
-pub(crate) fn next(layout: WeightLayout, run: Run) -> Run
-    requires layout_value { sizes_valid layout ≡ true }
-    requires at_run { AtRun layout run }
-    ensures { NextRun layout run result }
+pub(crate) fn next(tensor: Tensor, run: Run) -> Run
+    requires { AtRun tensor.layout run }
+    ensures { NextRun tensor.layout run result }
 {
+    let layout = tensor.layout;
     let behind = Run {
         first: run.first + group_size(layout.precision),
         block: 0,

@@ -1,21 +1,19 @@
 -- `weights_calls::count` meets its contract: it checks, and counts the elements of an accepted setting. Assumes nothing.
 use mathlib.Core.Path.{sym, ap, ◌∙◌}
-use Rattle.refusal.specs.declared.Quantity.TheVariants.{Is}
-use Rattle.refusal.proofs.CheckLaws.{result-given, result-refused}
+use Rattle.std.specs.Prelude.{Ok}
+use Rattle.refusal.proofs.CheckLaws.{given-accepted, given-refused, handed-on}
+use Rattle.weights.specs.declared.WeightLayout.{WeightLayout}
 use Rattle.weights.specs.Geometry.{element_count}
 use Rattle.weights.specs.Calls.{count_quantity}
-use Rattle.weights.proofs.RuleLaws.{setting-held}
 use Rattle.weights_calls.proofs.count.Goals as goal
 
-pub element_count-requires : goal.element_count-requires
-element_count-requires c = setting-held _ (sym c.check_setting.ensures ∙ c.in-Accepted.is)
-
-pub returns-in-Refused : goal.returns-in-Refused
+pub returns-in_err-counted : goal.returns-in_err-counted
 unfolding count_quantity
-returns-in-Refused c =
-    sym (result-refused _ _ (element_count c.args.layout) (sym c.check_setting.ensures ∙ c.in-Refused.is))
+returns-in_err-counted c =
+    handed-on c.from_residual.result c.from_residual.ensures.1 ∙ sym (given-refused (element_count c.args.layout) (sym c.in_err-counted.ensures.answered))
 
-pub returns-in-Accepted : goal.returns-in-Accepted
+pub returns : goal.returns
 unfolding count_quantity
-returns-in-Accepted c =
-    ap Is c.element_count.ensures ∙ sym (result-given _ _ (element_count c.args.layout) (sym c.check_setting.ensures ∙ c.in-Accepted.is))
+returns c =
+    let value = c.element_count.ensures ∙ ap (λ (q : WeightLayout). element_count q) c.in_ok-counted.ensures.same in
+    ap Ok value ∙ sym (given-accepted (element_count c.args.layout) (sym c.in_ok-counted.ensures.answered))

@@ -1,21 +1,19 @@
--- `weights_calls::extent` meets its contract: it checks, and measures an accepted setting. Assumes nothing.
+-- `weights_calls::extent` meets its contract: it checks, and measures the surface of an accepted setting. Assumes nothing.
 use mathlib.Core.Path.{sym, ap, ◌∙◌}
-use Rattle.refusal.specs.declared.Quantity.TheVariants.{Is}
-use Rattle.refusal.proofs.CheckLaws.{result-given, result-refused}
+use Rattle.std.specs.Prelude.{Ok}
+use Rattle.refusal.proofs.CheckLaws.{given-accepted, given-refused, handed-on}
+use Rattle.weights.specs.declared.WeightLayout.{WeightLayout}
 use Rattle.weights.specs.Geometry.{surface_bytes}
 use Rattle.weights.specs.Calls.{extent_quantity}
-use Rattle.weights.proofs.RuleLaws.{setting-held}
 use Rattle.weights_calls.proofs.extent.Goals as goal
 
-pub surface_bytes-requires : goal.surface_bytes-requires
-surface_bytes-requires c = setting-held _ (sym c.check_setting.ensures ∙ c.in-Accepted.is)
-
-pub returns-in-Refused : goal.returns-in-Refused
+pub returns-in_err-measured : goal.returns-in_err-measured
 unfolding extent_quantity
-returns-in-Refused c =
-    sym (result-refused _ _ (surface_bytes c.args.layout) (sym c.check_setting.ensures ∙ c.in-Refused.is))
+returns-in_err-measured c =
+    handed-on c.from_residual.result c.from_residual.ensures.1 ∙ sym (given-refused (surface_bytes c.args.layout) (sym c.in_err-measured.ensures.answered))
 
-pub returns-in-Accepted : goal.returns-in-Accepted
+pub returns : goal.returns
 unfolding extent_quantity
-returns-in-Accepted c =
-    ap Is c.surface_bytes.ensures ∙ sym (result-given _ _ (surface_bytes c.args.layout) (sym c.check_setting.ensures ∙ c.in-Accepted.is))
+returns c =
+    let value = c.surface_bytes.ensures ∙ ap (λ (q : WeightLayout). surface_bytes q) c.in_ok-measured.ensures.same in
+    ap Ok value ∙ sym (given-accepted (surface_bytes c.args.layout) (sym c.in_ok-measured.ensures.answered))

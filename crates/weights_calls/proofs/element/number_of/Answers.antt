@@ -43,82 +43,82 @@ unfolding element_number offset_number group_kernels block_channels
 joined q k c r s g n m group kernels channels = rw (kernels, channels, group) (omega arith)
 
 pub nonzero_div-first : goal.nonzero_div-first
-nonzero_div-first c = omega (arith, some c.args.layout.precision c.group_size-group.ensures)
+nonzero_div-first c = omega (arith, some c.args.tensor.layout.precision c.group_size-group.ensures)
 
 pub overflow_mul-pixel : goal.overflow_mul-pixel
 overflow_mul-pixel c =
-    let p = pieces c.args.layout c.requires.layout_value c.requires.element c.group_size-group.ensures c.group_kernels-kernels.ensures c.least-channels.ensures in
+    let p = pieces c.args.tensor.layout c.args.tensor.sizes c.requires c.group_size-group.ensures c.group_kernels-kernels.ensures c.min-channels.ensures in
     omega (arith, p.pixel_le)
 
 pub overflow_add-pixel : goal.overflow_add-pixel
 overflow_add-pixel c =
-    let p = pieces c.args.layout c.requires.layout_value c.requires.element c.group_size-group.ensures c.group_kernels-kernels.ensures c.least-channels.ensures in
+    let p = pieces c.args.tensor.layout c.args.tensor.sizes c.requires c.group_size-group.ensures c.group_kernels-kernels.ensures c.min-channels.ensures in
     omega (arith, p.pixel_le)
 
 pub overflow_mul-before : goal.overflow_mul-before
 overflow_mul-before c =
-    let p = pieces c.args.layout c.requires.layout_value c.requires.element c.group_size-group.ensures c.group_kernels-kernels.ensures c.least-channels.ensures in
+    let p = pieces c.args.tensor.layout c.args.tensor.sizes c.requires c.group_size-group.ensures c.group_kernels-kernels.ensures c.min-channels.ensures in
     omega (arith, groups-le p)
 
 pub overflow_mul-before-2 : goal.overflow_mul-before-2
 overflow_mul-before-2 c =
-    let p = pieces c.args.layout c.requires.layout_value c.requires.element c.group_size-group.ensures c.group_kernels-kernels.ensures c.least-channels.ensures in
+    let p = pieces c.args.tensor.layout c.args.tensor.sizes c.requires c.group_size-group.ensures c.group_kernels-kernels.ensures c.min-channels.ensures in
     omega (arith, blocks-le p)
 
 pub overflow_add-before : goal.overflow_add-before
 overflow_add-before c =
-    let p = pieces c.args.layout c.requires.layout_value c.requires.element c.group_size-group.ensures c.group_kernels-kernels.ensures c.least-channels.ensures in
+    let p = pieces c.args.tensor.layout c.args.tensor.sizes c.requires c.group_size-group.ensures c.group_kernels-kernels.ensures c.min-channels.ensures in
     omega (arith, groups-le p, blocks-le p)
 
 pub overflow_mul-within : goal.overflow_mul-within
 overflow_mul-within c =
-    let p = pieces c.args.layout c.requires.layout_value c.requires.element c.group_size-group.ensures c.group_kernels-kernels.ensures c.least-channels.ensures in
+    let p = pieces c.args.tensor.layout c.args.tensor.sizes c.requires c.group_size-group.ensures c.group_kernels-kernels.ensures c.min-channels.ensures in
     omega (arith, pixel-kernels-le p)
 
 pub nonzero_rem-within : goal.nonzero_rem-within
-nonzero_rem-within c = omega (arith, some c.args.layout.precision c.group_size-group.ensures)
+nonzero_rem-within c = omega (arith, some c.args.tensor.layout.precision c.group_size-group.ensures)
 
 pub overflow_add-within : goal.overflow_add-within
 overflow_add-within c =
-    let p = pieces c.args.layout c.requires.layout_value c.requires.element c.group_size-group.ensures c.group_kernels-kernels.ensures c.least-channels.ensures in
+    let p = pieces c.args.tensor.layout c.args.tensor.sizes c.requires c.group_size-group.ensures c.group_kernels-kernels.ensures c.min-channels.ensures in
     omega (arith, pixel-kernels-le p, p.kernel_le)
 
 pub overflow_mul-within-2 : goal.overflow_mul-within-2
 overflow_mul-within-2 c =
-    let p = pieces c.args.layout c.requires.layout_value c.requires.element c.group_size-group.ensures c.group_kernels-kernels.ensures c.least-channels.ensures in
+    let p = pieces c.args.tensor.layout c.args.tensor.sizes c.requires c.group_size-group.ensures c.group_kernels-kernels.ensures c.min-channels.ensures in
     omega (arith, within-le p)
 
 pub overflow_add-within-2 : goal.overflow_add-within-2
 overflow_add-within-2 c =
-    let p = pieces c.args.layout c.requires.layout_value c.requires.element c.group_size-group.ensures c.group_kernels-kernels.ensures c.least-channels.ensures in
+    let p = pieces c.args.tensor.layout c.args.tensor.sizes c.requires c.group_size-group.ensures c.group_kernels-kernels.ensures c.min-channels.ensures in
     omega (arith, within-le p)
 
 pub overflow_cast-result : goal.overflow_cast-result
 overflow_cast-result c =
-    let p = pieces c.args.layout c.requires.layout_value c.requires.element c.group_size-group.ensures c.group_kernels-kernels.ensures c.least-channels.ensures in
+    let p = pieces c.args.tensor.layout c.args.tensor.sizes c.requires c.group_size-group.ensures c.group_kernels-kernels.ensures c.min-channels.ensures in
     omega (arith, groups-le p, blocks-le p)
 
 pub overflow_mul-result : goal.overflow_mul-result
 overflow_mul-result c =
-    let p = pieces c.args.layout c.requires.layout_value c.requires.element c.group_size-group.ensures c.group_kernels-kernels.ensures c.least-channels.ensures in
+    let p = pieces c.args.tensor.layout c.args.tensor.sizes c.requires c.group_size-group.ensures c.group_kernels-kernels.ensures c.min-channels.ensures in
     omega (arith, p.pixels_le)
 
 pub overflow_mul-result-2 : goal.overflow_mul-result-2
 overflow_mul-result-2 c =
-    let p = pieces c.args.layout c.requires.layout_value c.requires.element c.group_size-group.ensures c.group_kernels-kernels.ensures c.least-channels.ensures in
+    let p = pieces c.args.tensor.layout c.args.tensor.sizes c.requires c.group_size-group.ensures c.group_kernels-kernels.ensures c.min-channels.ensures in
     omega (arith, before-le p)
 
 pub overflow_cast-result-3 : goal.overflow_cast-result-3
 overflow_cast-result-3 c =
-    let p = pieces c.args.layout c.requires.layout_value c.requires.element c.group_size-group.ensures c.group_kernels-kernels.ensures c.least-channels.ensures in
+    let p = pieces c.args.tensor.layout c.args.tensor.sizes c.requires c.group_size-group.ensures c.group_kernels-kernels.ensures c.min-channels.ensures in
     omega (arith, within-le p)
 
 pub overflow_add-result : goal.overflow_add-result
 overflow_add-result c =
-    let p = pieces c.args.layout c.requires.layout_value c.requires.element c.group_size-group.ensures c.group_kernels-kernels.ensures c.least-channels.ensures in
+    let p = pieces c.args.tensor.layout c.args.tensor.sizes c.requires c.group_size-group.ensures c.group_kernels-kernels.ensures c.min-channels.ensures in
     omega (arith, before-le p, within-le p)
 
 pub returns : goal.returns
 returns c =
     let a = c.args in
-    joined a.layout a.kernel a.channel a.row a.column c.group_size-group.result c.group_kernels-kernels.result c.least-channels.result c.group_size-group.ensures c.group_kernels-kernels.ensures c.least-channels.ensures
+    joined a.tensor.layout a.kernel a.channel a.row a.column c.group_size-group.result c.group_kernels-kernels.result c.min-channels.result c.group_size-group.ensures c.group_kernels-kernels.ensures c.min-channels.ensures

@@ -12,35 +12,25 @@ use Rattle.weights_calls.proofs.read.runs.Goals as goal
 pub loop-run-init : goal.loop-run-init
 loop-run-init c =
     let a = c.args in
-    let adm = admitted a.layout (length a.elements.now) (length a.buffer.now) c.requires in
-    read_first a.layout a.buffer.now adm.layout a.elements.now
-
-pub run_columns-requires-clause-layout_value : goal.run_columns-requires-clause-layout_value
-run_columns-requires-clause-layout_value c =
-    let a = c.args in
-    (admitted a.layout (length a.elements.now) (length a.buffer.now) c.requires).sizes
-
-pub next-run-requires-clause-layout_value : goal.next-run-requires-clause-layout_value
-next-run-requires-clause-layout_value c =
-    let a = c.args in
-    (admitted a.layout (length a.elements.now) (length a.buffer.now) c.requires).sizes
+    let adm = admitted a.tensor.layout (length a.elements.now) (length a.buffer.now) c.requires in
+    read_first a.tensor.layout a.buffer.now adm.layout a.elements.now
 
 pub loop-run-smaller : goal.loop-run-smaller
 loop-run-smaller c =
     let a = c.args in
-    let adm = admitted a.layout (length a.elements.now) (length a.buffer.now) c.requires in
-    next-less a.layout adm.layout c.loop-run.run c.next-run.result (c.loop-run.invariant.at c.loop-run-test.true) c.next-run.ensures
+    let adm = admitted a.tensor.layout (length a.elements.now) (length a.buffer.now) c.requires in
+    next-less a.tensor.layout adm.layout c.loop-run.run c.next-run.result (c.loop-run.invariant.at c.loop-run-test.true) c.next-run.ensures
 
 pub loop-run-preserved : goal.loop-run-preserved
 loop-run-preserved c =
     let a = c.args in
     let l = c.loop-run in
-    let adm = admitted a.layout (length a.elements.now) (length a.buffer.now) c.requires in
-    read_next a.layout a.buffer.now adm.layout adm.room a.elements.now adm.count l.run c.next-run.result
+    let adm = admitted a.tensor.layout (length a.elements.now) (length a.buffer.now) c.requires in
+    read_next a.tensor.layout a.buffer.now adm.layout adm.room a.elements.now adm.count l.run c.next-run.result
     (l.invariant.at c.loop-run-test.true) l.invariant (c.read.ensures ∙ ap (λ (k : ColumnBlock). block_read k a.buffer.now l.elements) c.run_columns.ensures) c.next-run.ensures
 
 pub returns : goal.returns
 returns c =
     let a = c.args in
-    let adm = admitted a.layout (length a.elements.now) (length a.buffer.now) c.requires in
-    read_done a.layout a.buffer.now adm.layout a.elements.now adm.count c.loop-run.run c.loop-run.elements c.loop-run-test.false c.loop-run.invariant
+    let adm = admitted a.tensor.layout (length a.elements.now) (length a.buffer.now) c.requires in
+    read_done a.tensor.layout a.buffer.now adm.layout a.elements.now adm.count c.loop-run.run c.loop-run.elements c.loop-run-test.false c.loop-run.invariant

@@ -6,7 +6,7 @@ use Rattle.weights_calls.proofs.ReadLaws.{Reading}
 use Rattle.weights_calls.proofs.read.runs.Given as goal
 
 abbrev pub invariant-loop-run : goal.invariant-loop-run
-invariant-loop-run l = Reading l.layout l.buffer l.initial.elements l.elements l.run
+invariant-loop-run l = Reading l.tensor.layout l.buffer l.initial.elements l.elements l.run
 
 abbrev pub decreases-loop-run : goal.decreases-loop-run
 decreases-loop-run l = 2 ^ 25 - rank_of l.run

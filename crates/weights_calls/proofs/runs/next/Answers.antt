@@ -21,41 +21,41 @@ behind q x e n = rw e n
 pub overflow_add-behind : goal.overflow_add-behind
 overflow_add-behind c =
     let a = c.args in
-    let ok = valid a.layout c.requires.layout_value in
-    omega (arith, c.group_size.ensures, group_size-le a.layout.precision, (run_small a.layout ok a.run c.requires.at_run.here).kernel_in, ok.kernels.most_le)
+    let ok = valid a.tensor.layout c.args.tensor.sizes in
+    omega (arith, c.group_size.ensures, group_size-le a.tensor.layout.precision, (run_small a.tensor.layout ok a.run c.requires.here).kernel_in, ok.kernels.most_le)
 
 pub returns-then-layout-le64 : goal.returns-then-layout-le64
 returns-then-layout-le64 c =
     let a = c.args in
-    behind a.layout a.run c.group_size.ensures (next-whole a.layout (valid a.layout c.requires.layout_value) a.run c.requires.at_run c.if-layout-le64.true)
+    behind a.tensor.layout a.run c.group_size.ensures (next-whole a.tensor.layout (valid a.tensor.layout c.args.tensor.sizes) a.run c.requires c.if-layout-le64.true)
 
 pub overflow_add-run : goal.overflow_add-run
 overflow_add-run c =
     let a = c.args in
-    omega (arith, (run_small a.layout (valid a.layout c.requires.layout_value) a.run c.requires.at_run.here).kernel_lt)
+    omega (arith, (run_small a.tensor.layout (valid a.tensor.layout c.args.tensor.sizes) a.run c.requires.here).kernel_lt)
 
 pub returns-then-run-group_kernels : goal.returns-then-run-group_kernels
 returns-then-run-group_kernels c =
     let a = c.args in
-    let kernels-are : c.group_kernels.result ≡ group_kernels a.layout (group_in a.layout a.run) = c.group_kernels.ensures ∙ kernels-of a.layout (valid a.layout c.requires.layout_value) a.run c.requires.at_run.here in
-    next-kernel a.layout (valid a.layout c.requires.layout_value) a.run c.requires.at_run c.if-layout-le64.false (subst (λ (n : ℕ). a.run.kernel + 1 < n) kernels-are c.if-run-group_kernels.true)
+    let kernels-are : c.group_kernels.result ≡ group_kernels a.tensor.layout (group_in a.tensor.layout a.run) = c.group_kernels.ensures ∙ kernels-of a.tensor.layout (valid a.tensor.layout c.args.tensor.sizes) a.run c.requires.here in
+    next-kernel a.tensor.layout (valid a.tensor.layout c.args.tensor.sizes) a.run c.requires c.if-layout-le64.false (subst (λ (n : ℕ). a.run.kernel + 1 < n) kernels-are c.if-run-group_kernels.true)
 
 pub overflow_mul-run : goal.overflow_mul-run
 overflow_mul-run c =
     let a = c.args in
-    omega (arith, (run_small a.layout (valid a.layout c.requires.layout_value) a.run c.requires.at_run.here).block_lt)
+    omega (arith, (run_small a.tensor.layout (valid a.tensor.layout c.args.tensor.sizes) a.run c.requires.here).block_lt)
 
 pub returns-then-run-layout : goal.returns-then-run-layout
 returns-then-run-layout c =
     let a = c.args in
-    let kernels-are : c.group_kernels.result ≡ group_kernels a.layout (group_in a.layout a.run) = c.group_kernels.ensures ∙ kernels-of a.layout (valid a.layout c.requires.layout_value) a.run c.requires.at_run.here in
-    let last : group_kernels a.layout (group_in a.layout a.run) ≤ a.run.kernel + 1 = subst (λ (n : ℕ). n ≤ a.run.kernel + 1) kernels-are c.if-run-group_kernels.false in
-    next-block a.layout (valid a.layout c.requires.layout_value) a.run c.requires.at_run c.if-layout-le64.false last c.if-run-layout.true
+    let kernels-are : c.group_kernels.result ≡ group_kernels a.tensor.layout (group_in a.tensor.layout a.run) = c.group_kernels.ensures ∙ kernels-of a.tensor.layout (valid a.tensor.layout c.args.tensor.sizes) a.run c.requires.here in
+    let last : group_kernels a.tensor.layout (group_in a.tensor.layout a.run) ≤ a.run.kernel + 1 = subst (λ (n : ℕ). n ≤ a.run.kernel + 1) kernels-are c.if-run-group_kernels.false in
+    next-block a.tensor.layout (valid a.tensor.layout c.args.tensor.sizes) a.run c.requires c.if-layout-le64.false last c.if-run-layout.true
 
 pub returns : goal.returns
 returns c =
     let a = c.args in
-    let kernels-are : c.group_kernels.result ≡ group_kernels a.layout (group_in a.layout a.run) = c.group_kernels.ensures ∙ kernels-of a.layout (valid a.layout c.requires.layout_value) a.run c.requires.at_run.here in
-    let last : group_kernels a.layout (group_in a.layout a.run) ≤ a.run.kernel + 1 = subst (λ (n : ℕ). n ≤ a.run.kernel + 1) kernels-are c.if-run-group_kernels.false in
-    behind a.layout a.run c.group_size.ensures
-    (next-group a.layout (valid a.layout c.requires.layout_value) a.run c.requires.at_run c.if-layout-le64.false last c.if-run-layout.false)
+    let kernels-are : c.group_kernels.result ≡ group_kernels a.tensor.layout (group_in a.tensor.layout a.run) = c.group_kernels.ensures ∙ kernels-of a.tensor.layout (valid a.tensor.layout c.args.tensor.sizes) a.run c.requires.here in
+    let last : group_kernels a.tensor.layout (group_in a.tensor.layout a.run) ≤ a.run.kernel + 1 = subst (λ (n : ℕ). n ≤ a.run.kernel + 1) kernels-are c.if-run-group_kernels.false in
+    behind a.tensor.layout a.run c.group_size.ensures
+    (next-group a.tensor.layout (valid a.tensor.layout c.args.tensor.sizes) a.run c.requires c.if-layout-le64.false last c.if-run-layout.false)

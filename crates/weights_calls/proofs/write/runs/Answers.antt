@@ -12,35 +12,25 @@ use Rattle.weights_calls.proofs.write.runs.Goals as goal
 pub loop-run-init : goal.loop-run-init
 loop-run-init c =
     let a = c.args in
-    let adm = admitted a.layout (length a.elements.now) (length a.buffer.now) c.requires in
-    write-first a.layout a.elements.now a.buffer.now adm.layout
-
-pub run_columns-requires-clause-layout_value : goal.run_columns-requires-clause-layout_value
-run_columns-requires-clause-layout_value c =
-    let a = c.args in
-    (admitted a.layout (length a.elements.now) (length a.buffer.now) c.requires).sizes
-
-pub next-run-requires-clause-layout_value : goal.next-run-requires-clause-layout_value
-next-run-requires-clause-layout_value c =
-    let a = c.args in
-    (admitted a.layout (length a.elements.now) (length a.buffer.now) c.requires).sizes
+    let adm = admitted a.tensor.layout (length a.elements.now) (length a.buffer.now) c.requires in
+    write-first a.tensor.layout a.elements.now a.buffer.now adm.layout
 
 pub loop-run-smaller : goal.loop-run-smaller
 loop-run-smaller c =
     let a = c.args in
-    let adm = admitted a.layout (length a.elements.now) (length a.buffer.now) c.requires in
-    next-less a.layout adm.layout c.loop-run.run c.next-run.result (c.loop-run.invariant.at c.loop-run-test.true) c.next-run.ensures
+    let adm = admitted a.tensor.layout (length a.elements.now) (length a.buffer.now) c.requires in
+    next-less a.tensor.layout adm.layout c.loop-run.run c.next-run.result (c.loop-run.invariant.at c.loop-run-test.true) c.next-run.ensures
 
 pub loop-run-preserved : goal.loop-run-preserved
 loop-run-preserved c =
     let a = c.args in
     let l = c.loop-run in
-    let adm = admitted a.layout (length a.elements.now) (length a.buffer.now) c.requires in
-    write-next a.layout a.elements.now a.buffer.now adm.room adm.layout adm.count l.run c.next-run.result
+    let adm = admitted a.tensor.layout (length a.elements.now) (length a.buffer.now) c.requires in
+    write-next a.tensor.layout a.elements.now a.buffer.now adm.room adm.layout adm.count l.run c.next-run.result
     (l.invariant.at c.loop-run-test.true) l.invariant (c.write.ensures ∙ ap (λ (k : ColumnBlock). block_written k a.elements.now l.buffer) c.run_columns.ensures) c.next-run.ensures
 
 pub returns : goal.returns
 returns c =
     let a = c.args in
-    let adm = admitted a.layout (length a.elements.now) (length a.buffer.now) c.requires in
-    write_done a.layout a.elements.now a.buffer.now adm.room adm.layout c.loop-run.run c.loop-run.buffer c.loop-run-test.false c.loop-run.invariant
+    let adm = admitted a.tensor.layout (length a.elements.now) (length a.buffer.now) c.requires in
+    write_done a.tensor.layout a.elements.now a.buffer.now adm.room adm.layout c.loop-run.run c.loop-run.buffer c.loop-run-test.false c.loop-run.invariant

@@ -6,7 +6,7 @@ use Rattle.weights_calls.proofs.WriteLaws.{Writing}
 use Rattle.weights_calls.proofs.write.runs.Given as goal
 
 abbrev pub invariant-loop-run : goal.invariant-loop-run
-invariant-loop-run l = Writing l.layout l.elements l.initial.buffer l.buffer l.run
+invariant-loop-run l = Writing l.tensor.layout l.elements l.initial.buffer l.buffer l.run
 
 abbrev pub decreases-loop-run : goal.decreases-loop-run
 decreases-loop-run l = 2 ^ 25 - rank_of l.run
