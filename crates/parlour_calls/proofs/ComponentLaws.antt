@@ -2,28 +2,26 @@
 --     component-one, component-two         one byte, and two
 --     value-ten .. value-plain             the number that two bytes are, by the format
 --     level-is                             a component of one byte, looked up
---     value-back, levels-more              a converted number stored, and the tables with one number more
+--     value-back                           a converted number stored
 use Prim.Native.Nat.{ℕ, ◌+◌, ◌*◌, ◌%◌, ◌<◌}
 use native.Mathlib.Omega.{arith}
 use mathlib.Core.Path.{◌≡◌, refl, sym, ap, ◌∙◌}
-use mathlib.Core.Bool.{Bool, false}
 use mathlib.Core.List.{List}
-use lib.ListN.{length, get_or, set}
+use lib.ListN.{get_or}
 use lib.IntN.{ℤ, pos}
 use borrow.Author.Tests.{ne_eqb}
 use mir.Syntax.{w16}
 use mir.Val.{to_z, of_z}
-use Rattle.general.proofs.ListLaws.{filled_more}
 use Rattle.general.proofs.NumberLaws.{back16}
 use Rattle.elements.specs.Bytes.{word_at, signed}
 use Rattle.elements.proofs.WordLaws.{word_at-one, word_at-two}
 use Rattle.pixels.specs.Formats.{format_table, format_in, format_of}
 use Rattle.quantize.specs.declared.Converted.{Converted}
-use Rattle.quantize.specs.Quantize.{limited, conversion}
+use Rattle.quantize.specs.Quantize.{conversion}
 use Rattle.parlour.specs.declared.Conversion.{Conversion}
 use Rattle.parlour.specs.Components.{component_bytes, component_value, component_at, converted}
 use Rattle.parlour.proofs.ElementLaws.{converted-mag}
-use Rattle.parlour_calls.specs.Steps.{Levels, level_at}
+use Rattle.parlour_calls.specs.Steps.{Levels, unheld}
 
 module _ (code n : ℕ) where
   pub value-ten : code ≡ 1 → component_value code n ≡ pos (n % 1024)
@@ -63,23 +61,11 @@ module _ (code : ℕ) (pixels : List ℕ) (p : ℕ) where
   component-two two = ap (λ (e : ℕ). component_value code (word_at e pixels p)) two ∙ ap (component_value code) (word_at-two pixels p)
 
 -- a component of one byte, looked up
-pub level-is : (code : ℕ) (k : Conversion) (precision : ℕ) (values : List ℤ) (flags : List Bool) (pixels : List ℕ) (p : ℕ) → Levels k precision values flags → component_bytes code ≡ 1 → get_or pixels p 0 < 256
-    → level_at values flags (get_or pixels p 0) ≡ conversion (component_at code pixels p) k.offset k.scale k.shift precision
-level-is code k precision values flags pixels p told one small =
-    told.2 (get_or pixels p 0) small ∙ ap (λ (d : ℤ). conversion d k.offset k.scale k.shift precision) (sym (component-one code pixels p one))
-
--- ---- the tables of levels
+pub level-is : (code : ℕ) (k : Conversion) (precision : ℕ) (levels : List Converted) (pixels : List ℕ) (p : ℕ) → Levels k precision levels → component_bytes code ≡ 1 → get_or pixels p 0 < 256
+    → get_or levels (get_or pixels p 0) unheld ≡ conversion (component_at code pixels p) k.offset k.scale k.shift precision
+level-is code k precision levels pixels p told one small =
+    told.1 (get_or pixels p 0) small ∙ ap (λ (d : ℤ). conversion d k.offset k.scale k.shift precision) (sym (component-one code pixels p one))
 
 -- what is stored of a converted number is read back
 pub value-back : {c : Converted} (k : Conversion) (p : ℕ) (d : ℤ) → c ≡ conversion d k.offset k.scale k.shift p → to_z w16 (of_z w16 c.value) ≡ converted k p d
 value-back k p d e = ap (λ (x : Converted). to_z w16 (of_z w16 x.value)) e ∙ back16 (converted k p d) (converted-mag k d p)
-
--- with entry n written in both tables, the entries below n + 1 are converted
-pub levels-more : (k : Conversion) (p : ℕ) (values : List ℤ) (flags : List Bool) (n : ℕ) {c : Converted} → n < length values → n < length flags
-    → c ≡ conversion (pos n) k.offset k.scale k.shift p
-    → ((m : ℕ) → m < n → level_at values flags m ≡ conversion (pos m) k.offset k.scale k.shift p)
-    → (m : ℕ) → m < n + 1 → level_at (set values n (to_z w16 (of_z w16 c.value))) (set flags n c.held) m ≡ conversion (pos m) k.offset k.scale k.shift p
-levels-more k p values flags n {c} hv hf e all m h =
-    let v = filled_more (pos 0) (λ (i : ℕ). converted k p (pos i)) values n (to_z w16 (of_z w16 c.value)) hv (value-back k p (pos n) e) (λ i l. ap (λ (x : Converted). x.value) (all i l)) m h in
-    let b = filled_more false (λ (i : ℕ). limited (pos i) k.offset k.scale k.shift p) flags n c.held hf (ap (λ (x : Converted). x.held) e) (λ i l. ap (λ (x : Converted). x.held) (all i l)) m h in
-    λ i. record { value = v i; held = b i }

@@ -1,7 +1,8 @@
 -- How many components are held, as the code counts them: run by run of a strip, strip by strip of a row. Assumes nothing.
 --     run_none, run_more, run-le      a run: no component, one more, how many at most
 --     strip-of, strip-le              the runs of a strip are its pixels
-use Prim.Native.Nat.{ℕ, ◌+◌, ◌*◌, ◌≤◌}
+--     row-more                        a strip more of a row
+use Prim.Native.Nat.{ℕ, ◌+◌, ◌-◌, ◌*◌, ◌≤◌, ◌<◌, min}
 use native.Mathlib.Omega.{arith}
 use mathlib.Core.Path.{◌≡◌, sym, ap, ◌∙◌}
 use mathlib.Core.Bool.{cond}
@@ -16,7 +17,7 @@ use Rattle.parlour.specs.declared.Conversion.{Conversion}
 use Rattle.parlour.specs.Components.{component_bytes, component_at, component}
 use Rattle.parlour.specs.Counts.{total, held_one, pixel_held}
 use Rattle.parlour.proofs.ComponentLaws.{pixel-step}
-use Rattle.parlour.proofs.CountLaws.{total-none, total-more, total-same, total-swap, total-le, held_one-le, pixel_held-le}
+use Rattle.parlour.proofs.CountLaws.{total-none, total-more, total-add, total-same, total-swap, total-le, held_one-le, pixel_held-le}
 use Rattle.parlour_calls.specs.Steps.{run_held, strip_held, pixels_held}
 
 -- ---- a run
@@ -62,6 +63,16 @@ module _ (image : PixelSetting) (pixels : List ℕ) (k : Conversion) (p : ℕ) (
       (λ n h. total-same _ _ count (λ i l. same-one channels size whole same n i))
       ∙ total-swap (λ (n i : ℕ). held_one k p (component image pixels n (x + i) y)) channels count
       ∙ ap (λ (c : ℕ). total (λ (i : ℕ). total (λ (n : ℕ). held_one k p (component image pixels n (x + i) y)) c) count) all
+
+  -- the strips of a row of so many pixels before pixel x, and the next one, of at most 256
+  pub row-more : (width : ℕ) → x < width → count ≡ min (width - x) 256 → {held more : ℕ} → held ≡ total (λ (i : ℕ). pixel_held image pixels k p i y) (min x width)
+      → more ≡ pixels_held image pixels k p x y count → held + more ≡ total (λ (i : ℕ). pixel_held image pixels k p i y) (min (x + 256) width)
+  unfolding pixels_held
+  row-more width lt is e w =
+      let pixel : ℕ → ℕ = λ (i : ℕ). pixel_held image pixels k p i y in
+      let first : min x width ≡ x = omega arith in
+      let next : x + count ≡ min (x + 256) width = omega arith in
+      omega (arith, e, w, ap (total pixel) first, total-add pixel x count) ∙ ap (total pixel) next
 
   pub strip-le : pixels_held image pixels k p x y count ≤ image.channels * count
   unfolding pixels_held

@@ -9,12 +9,10 @@ use mathlib.Core.Path.{◌≡◌, refl, sym, ap, subst⁻¹, ◌∙◌}
 use mathlib.Core.List.{List}
 use lib.ListN.{length}
 use lib.IntN.{ℤ, pos}
-use Rattle.refusal.specs.declared.Answer.{Answer}
-use Rattle.refusal.specs.declared.Answer.TheVariants.{Accepted, Refused}
-use Rattle.refusal.specs.declared.Refusal.{Refusal}
-use Rattle.refusal.specs.declared.Quantity.TheVariants.{Is, Refused as NotGiven}
-use Rattle.refusal.specs.Checks.{in_order}
-use Rattle.refusal.proofs.CheckLaws.{in_order-passed, in_order-refused, leaves-done, result-given, result-refused}
+use Rattle.std.specs.Prelude.{Ok, Err}
+use Rattle.refusal.specs.declared.Fault.{Fault}
+use Rattle.refusal.specs.Checks.{in_order, Answer, Accepted}
+use Rattle.refusal.proofs.CheckLaws.{in_order-passed, in_order-refused, leaves-done, given-accepted, given-refused, given-ok, given-err}
 use Rattle.elements.proofs.TabulateLaws.{tabulate-ext}
 use Rattle.layout.specs.declared.ElementBox.{ElementBox}
 use Rattle.layout.specs.Boxes.{box_count, channel_at, row_at, column_at}
@@ -22,10 +20,8 @@ use Rattle.layout.specs.Contents.{edited, elements_by}
 use Rattle.layout.proofs.CallLaws.{clear-valid}
 use Rattle.pixels.specs.declared.PixelSetting.{PixelSetting}
 use Rattle.regions.specs.declared.RegionTable.{RegionTable}
-use Rattle.regions.specs.declared.FoundBox.TheVariants.{At, Refused as NotFound}
 use Rattle.regions.specs.Rules.{Access, access_of, region_box, whole_region}
 use Rattle.regions.proofs.CallLaws.{box-passes}
-use Rattle.regions_calls.proofs.StepLaws.{refused-of, at_of}
 use Rattle.parlour.specs.declared.Conversion.{Conversion}
 use Rattle.parlour.specs.Components.{image_box, painted_elements}
 use Rattle.parlour.specs.Rules.{picture_checks, target_checks, paint_checks}
@@ -57,30 +53,30 @@ module _ (t : RegionTable) (n id : ℕ) (image : PixelSetting) (pixels : List �
   picture = in_order (picture_checks t.layout image k.shift (length pixels))
 
   -- the picture is refused
-  pub picture-refused : {r : Refusal} {i : ℕ} → picture ≡ Refused r i
-      → (NotGiven r i ≡ paint_held t n id image pixels k (length before)) × (before ≡ paint_buffer t n id image pixels k before)
+  pub picture-refused : {f : Fault} → picture ≡ Err f
+      → (Err f ≡ paint_held t n id image pixels k (length before)) × (before ≡ paint_buffer t n id image pixels k before)
   unfolding paint_held paint_answer paint_checks
   picture-refused e =
       let denied = in_order-refused _ (target_checks a image (length before)) e in
-      (sym (result-refused _ _ _ denied), sym (paint-kept t n id image pixels k before denied))
+      (sym (given-refused _ denied), sym (paint-kept t n id image pixels k before denied))
 
   module _ (ok : picture ≡ Accepted) where
     -- the region is
-    pub target-refused : {r : Refusal} {i : ℕ} → target_found a image (length before) ≡ NotFound r i
-        → (NotGiven r i ≡ paint_held t n id image pixels k (length before)) × (before ≡ paint_buffer t n id image pixels k before)
+    pub target-refused : {f : Fault} → target_found a image (length before) ≡ Err f
+        → (Err f ≡ paint_held t n id image pixels k (length before)) × (before ≡ paint_buffer t n id image pixels k before)
     unfolding paint_held paint_answer paint_checks target_found
     target-refused e =
-        let denied = in_order-passed _ _ ok ∙ refused-of _ _ e in
-        (sym (result-refused _ _ _ denied), sym (paint-kept t n id image pixels k before denied))
+        let denied = in_order-passed _ _ ok ∙ given-err _ _ _ e in
+        (sym (given-refused _ denied), sym (paint-kept t n id image pixels k before denied))
 
-    module _ {box : ElementBox} (found : target_found a image (length before) ≡ At box) where
+    module _ {box : ElementBox} (found : target_found a image (length before) ≡ Ok box) where
       accepted : in_order (target_checks a image (length before)) ≡ Accepted
       unfolding target_found
-      accepted = (at_of _ _ found).0
+      accepted = (given-ok _ _ _ found).0
 
       box-is : box ≡ region_box a (whole_region a)
       unfolding target_found
-      box-is = (at_of _ _ found).1
+      box-is = sym (given-ok _ _ _ found).1
 
       valid-picture : ValidPicture t.layout image k.shift (length pixels)
       valid-picture = picture-accepted t.layout image k.shift (length pixels) ok
@@ -106,9 +102,9 @@ module _ (t : RegionTable) (n id : ℕ) (image : PixelSetting) (pixels : List �
       answered = in_order-passed _ _ ok ∙ accepted
 
       -- the region is painted
-      pub paint-counts : Is (held_count image pixels k t.layout.precision) ≡ paint_held t n id image pixels k (length before)
+      pub paint-counts : Ok (held_count image pixels k t.layout.precision) ≡ paint_held t n id image pixels k (length before)
       unfolding paint_held
-      paint-counts = sym (result-given _ _ _ answered)
+      paint-counts = sym (given-accepted _ answered)
 
       pub paint-leaves : part_painted t.layout box box image pixels k before ≡ paint_buffer t n id image pixels k before
       unfolding part_painted paint_buffer

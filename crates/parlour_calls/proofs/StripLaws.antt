@@ -1,19 +1,19 @@
 -- Strips of a picture: what the tile has, and that writing it is painting the strip; strips side by side, and rows below rows. Assumes nothing.
 --     Ready, ready                what a picture that may be painted tells
 --     strip-room, strip-fits      the pixels of a strip, and its elements
---     strip-painted, strip-written     the tile written is the strip painted
+--     strip-elements              the tile has the strip's elements
+--     strip-accepted, strip-written     which are accepted, and written they are the strip painted
 --     strip-counted               how many of its components are held
 --     painted-length .. rows_all  the buffer's length; no row or column, a further one, all of them
-use Prim.Native.Nat.{ℕ, ◌+◌, ◌-◌, ◌*◌, ◌/◌, ◌≤◌, ◌<◌}
+use Prim.Native.Nat.{ℕ, ◌+◌, ◌-◌, ◌*◌, ◌≤◌, ◌<◌, min}
 use native.Mathlib.Omega.{arith}
 use native.Mathlib.Nat.{le_refl, mul-le-mul, mul_comm}
-use mathlib.Core.Path.{◌≡◌, refl, sym, ap, subst, subst⁻¹, ◌∙◌}
+use mathlib.Core.Path.{◌≡◌, refl, sym, ap, subst, ◌∙◌}
 use mathlib.Core.List.{List}
 use lib.ListN.{length, get_or, take}
 use lib.Seq.{length-take-le, get_or-take}
 use lib.IntN.{ℤ, pos}
-use Rattle.refusal.specs.declared.Answer.TheVariants.{Accepted}
-use Rattle.refusal.specs.Checks.{in_order}
+use Rattle.refusal.specs.Checks.{in_order, Accepted}
 use Rattle.refusal.proofs.CheckLaws.{leaves-done}
 use Rattle.elements.specs.Values.{value_valid, value_checks}
 use Rattle.elements.proofs.TabulateLaws.{length-tabulate, get_d_tabulate}
@@ -29,7 +29,6 @@ use Rattle.layout.proofs.BoxLaws.{InBox, BoxValid, valid-box}
 use Rattle.layout.proofs.CallLaws.{Admitted, box-layout, box-accepted, clear-front, clear-admitted, admit-valid, write-values}
 use Rattle.layout.proofs.ContentLaws.{edited-length}
 use Rattle.layout.proofs.JoinLaws.{Gives, by-gives, gives-list, band, strip-valid, band-valid, columns-join, rows_join, no-columns, no_rows, strip-all, band-all, edited-join, edited-none}
-use Rattle.pixels.specs.declared.PixelFormat.{PixelFormat}
 use Rattle.pixels.specs.declared.PixelSetting.{PixelSetting}
 use Rattle.pixels.specs.Formats.{format_of}
 use Rattle.pixels.specs.Places.{ValidSetting}
@@ -75,12 +74,10 @@ module _ (q : CubeLayout) (box : ElementBox) (image : PixelSetting) (shift given
         let r = ready in
         omega (arith, strip-end image x y count some wide high, r.picture.room, ap (λ (b : ℕ). b * count) r.components.whole)
 
-    -- by the format and the position that were looked up
-    pub strip-room : {f : PixelFormat} → f ≡ format_of image.format → {at : ℕ} → at ≡ pixel_position image x y → at + f.channels * (f.bytes / f.channels) * count ≤ given
-    unfolding component_bytes
-    strip-room {f} e {at} ea =
-        subst⁻¹ (λ (g : PixelFormat). at + g.channels * (g.bytes / g.channels) * count ≤ given) e
-        (subst⁻¹ (λ (n : ℕ). n + (format_of image.format).channels * component_bytes image.format * count ≤ given) ea strip-pixels)
+    -- by the position, the channels and the bytes of a component that were found
+    pub strip-room : {at channels size : ℕ} → at ≡ pixel_position image x y → channels ≡ (format_of image.format).channels → size ≡ component_bytes image.format
+        → at + channels * size * count ≤ given
+    strip-room ea ec es = rw (ea, ec, es) strip-pixels
 
     -- and the strip is in the cube
     strip-inside : BoxValid q (strip_of box x y count)
@@ -174,35 +171,34 @@ module _ (q : CubeLayout) (box : ElementBox) (image : PixelSetting) (pixels : Li
       sym (write-values q part (elements_by part rule) len (sym (admit-valid q part (length (elements_by part rule)) len (sym ok) (length-tabulate _ (box_count part)) r.box-in.room)))
       ∙ part-values
 
-  -- the tile written is the strip painted
-  strip-painted : (before tile' : List ℤ) → length before ≡ 1024
-      → tile' ≡ columns (strip_element image.format size channels k q.precision pixels (pixel_position image x y)) count channels 0 count before
-      → (buffer : List ℕ) → length buffer ≡ len → write_box_buffer q part (take (channels * count) tile') buffer ≡ part_painted q box part image pixels k buffer
-  unfolding write_box_buffer part_painted
-  strip-painted before tile' long e buffer same =
-      ap (λ (t : List ℤ). write_box_buffer q part (take (channels * count) t) buffer) e
-      ∙ ap (λ (xs : List ℤ). write_box_buffer q part xs buffer) (tile-list before long)
-      ∙ leaves-done (edited q part (elements_by part rule) buffer) buffer (ap (λ (n : ℕ). write_box_answer q part (elements_by part rule) n) same ∙ part-accepted)
-
-  -- by the format and the position that were looked up
-  pub strip-written : {f : PixelFormat} → f ≡ format_of image.format → {at : ℕ} → at ≡ pixel_position image x y → (before tile' : List ℤ) → length before ≡ 1024
-      → tile' ≡ columns (strip_element image.format (f.bytes / f.channels) f.channels k q.precision pixels at) count f.channels 0 count before
-      → (buffer : List ℕ) → length buffer ≡ len → write_box_buffer q part (take (f.channels * count) tile') buffer ≡ part_painted q box part image pixels k buffer
-  unfolding component_bytes
-  strip-written {f} e {at} ea before tile' long et buffer same =
-      ap (λ (g : PixelFormat). write_box_buffer q part (take (g.channels * count) tile') buffer) e
-      ∙ strip-painted before tile' long
+  -- the tile has the strip's elements, by the position, the channels and the bytes of a component that were found
+  pub strip-elements : {at m e : ℕ} → at ≡ pixel_position image x y → m ≡ channels → e ≡ size → (before tile' : List ℤ) → length before ≡ 1024
+      → tile' ≡ columns (strip_element image.format e m k q.precision pixels at) count m 0 count before → take (m * count) tile' ≡ elements_by part rule
+  strip-elements {at} {m} {e} ea em ee before tile' long et =
+      ap (λ (c : ℕ). take (c * count) tile') em
+      ∙ ap (take (channels * count))
       (et
-      ∙ ap (λ (g : PixelFormat). columns (strip_element image.format (g.bytes / g.channels) g.channels k q.precision pixels at) count g.channels 0 count before) e
+      ∙ ap (λ (c : ℕ). columns (strip_element image.format e c k q.precision pixels at) count c 0 count before) em
+      ∙ ap (λ (s : ℕ). columns (strip_element image.format s channels k q.precision pixels at) count channels 0 count before) ee
       ∙ ap (λ (a : ℕ). columns (strip_element image.format size channels k q.precision pixels a) count channels 0 count before) ea)
-      buffer same
+      ∙ tile-list before long
+
+  -- which are accepted, and written they are the strip painted
+  pub strip-accepted : {xs : List ℤ} → xs ≡ elements_by part rule → {n : ℕ} → n ≡ len → write_box_answer q part xs n ≡ Accepted
+  strip-accepted e {n} same = ap (λ (ys : List ℤ). write_box_answer q part ys n) e ∙ ap (write_box_answer q part (elements_by part rule)) same ∙ part-accepted
+
+  pub strip-written : {xs : List ℤ} → xs ≡ elements_by part rule → (buffer : List ℕ) → length buffer ≡ len → write_box_buffer q part xs buffer ≡ part_painted q box part image pixels k buffer
+  unfolding write_box_buffer part_painted
+  strip-written e buffer same =
+      ap (λ (ys : List ℤ). write_box_buffer q part ys buffer) e
+      ∙ leaves-done (edited q part (elements_by part rule) buffer) buffer (strip-accepted refl same)
 
   -- and how many of its components are held
-  pub strip-counted : {f : PixelFormat} → f ≡ format_of image.format → {at : ℕ} → at ≡ pixel_position image x y
-      → strip_held image.format (f.bytes / f.channels) f.channels k q.precision pixels at count ≡ pixels_held image pixels k q.precision x y count
-  unfolding component_bytes
-  strip-counted {f} e {at} ea =
-      ap (λ (g : PixelFormat). strip_held image.format (g.bytes / g.channels) g.channels k q.precision pixels at count) e
+  pub strip-counted : {at m e : ℕ} → at ≡ pixel_position image x y → m ≡ channels → e ≡ size
+      → strip_held image.format e m k q.precision pixels at count ≡ pixels_held image pixels k q.precision x y count
+  strip-counted {at} {m} {e} ea em ee =
+      ap (λ (c : ℕ). strip_held image.format e c k q.precision pixels at count) em
+      ∙ ap (λ (s : ℕ). strip_held image.format s channels k q.precision pixels at count) ee
       ∙ ap (λ (a : ℕ). strip_held image.format size channels k q.precision pixels a count) ea
       ∙ strip-of image pixels k q.precision x y count channels size (sym r.setting.channels_is) r.components.whole refl
 
@@ -237,6 +233,14 @@ module _ (q : CubeLayout) (box : ElementBox) (image : PixelSetting) (pixels : Li
       ∙ ap (edited q n (elements_by n f)) e
       ∙ edited-join f l n all (elements_by l f) (elements_by n f) (elements_by all f) (columns-join (row_of box y) x count) (by-gives f l) (by-gives f n) (by-gives f all) q before
 
+  -- the next strip of a row of so many columns, at most 256 of them
+  pub row-next : (x y count width : ℕ) → x < width → count ≡ min (width - x) 256 → {buf after : List ℕ} → buf ≡ painted (strip_of box 0 y (min x width)) before
+      → after ≡ painted (strip_of box x y count) buf → after ≡ painted (strip_of box 0 y (min (x + 256) width)) before
+  row-next x y count width lt is e w =
+      let first : min x width ≡ x = omega arith in
+      let next : x + count ≡ min (x + 256) width = omega arith in
+      row_more x y count (e ∙ ap (λ (n : ℕ). painted (strip_of box 0 y n) before) first) w ∙ ap (λ (n : ℕ). painted (strip_of box 0 y n) before) next
+
   pub rows_more : (y : ℕ) {buf after : List ℕ} → buf ≡ painted (band box 0 y) before → after ≡ painted (row_of box y) buf → after ≡ painted (band box 0 (y + 1)) before
   unfolding part_painted
   rows_more y {buf} e w =
@@ -248,8 +252,11 @@ module _ (q : CubeLayout) (box : ElementBox) (image : PixelSetting) (pixels : Li
       ∙ ap (edited q n (elements_by n f)) e
       ∙ edited-join f l n all (elements_by l f) (elements_by n f) (elements_by all f) (rows_join box y 1) (by-gives f l) (by-gives f n) (by-gives f all) q before
 
-  pub row-all : (y : ℕ) → painted (strip_of box 0 y box.columns) before ≡ painted (row_of box y) before
+  row-all : (y : ℕ) → painted (strip_of box 0 y box.columns) before ≡ painted (row_of box y) before
   row-all y = ap (λ (b : ElementBox). painted b before) (strip-all (row_of box y))
+
+  pub row-end : (x y width : ℕ) → width ≤ x → box.columns ≡ width → painted (strip_of box 0 y (min x width)) before ≡ painted (row_of box y) before
+  row-end x y width past same = let all : min x width ≡ box.columns = omega arith in ap (λ (n : ℕ). painted (strip_of box 0 y n) before) all ∙ row-all y
 
   pub rows_all : painted (band box 0 box.rows) before ≡ painted box before
   rows_all = ap (λ (b : ElementBox). painted b before) (band-all box)

@@ -8,17 +8,16 @@ use mathlib.Core.Bool.{Bool, true, false, ◌&&◌}
 use lib.Dec.{eqb}
 use borrow.Author.Tests.{eq-eqb, ne_eqb}
 use Rattle.general.proofs.TestLaws.{and_both}
-use Rattle.refusal.specs.declared.Answer.TheVariants.{Accepted, Refused}
-use Rattle.refusal.specs.declared.Refusal.{Refusal}
+use Rattle.std.specs.Prelude.{Ok, Err}
+use Rattle.refusal.specs.declared.Fault.{Fault}
 use Rattle.refusal.specs.declared.Refusal.TheVariants.{Bounds}
-use Rattle.refusal.specs.Checks.{in_order}
-use Rattle.refusal.proofs.CheckLaws.{in_order-passed, result-given, result-refused}
+use Rattle.refusal.specs.Checks.{in_order, Accepted, refused_at}
+use Rattle.refusal.proofs.CheckLaws.{in_order-passed, given-accepted, given-refused}
 use Rattle.layout.specs.declared.ElementBox.{ElementBox}
 use Rattle.layout.specs.Rules.{box_checks, room_checks}
 use Rattle.layout.specs.Calls.{clear_box_answer}
 use Rattle.pixels.specs.declared.PixelSetting.{PixelSetting}
 use Rattle.regions.specs.declared.RegionTable.{RegionTable}
-use Rattle.regions.specs.declared.FoundBox.TheVariants.{At, Refused as NotFound}
 use Rattle.regions.specs.Rules.{Access, access_of, rectangle_named, region_box, whole_region, region_box_checks}
 use Rattle.regions.specs.Calls.{region_found}
 use Rattle.regions.proofs.CallLaws.{box-passes}
@@ -32,15 +31,15 @@ module _ (t : RegionTable) (n id : ℕ) (image : PixelSetting) (len : ℕ) where
   abbrev a : Access
   a = access_of t n id
 
-  refused : {r : Refusal} {i : ℕ} → Refused r i ≡ in_order (target_checks a image len) → NotFound r i ≡ target_found a image len
+  refused : {f : Fault} → Err f ≡ in_order (target_checks a image len) → Err f ≡ target_found a image len
   unfolding target_found
-  refused e = sym (result-refused _ _ _ (sym e))
+  refused e = sym (given-refused _ (sym e))
 
-  pub target-denied : {r : Refusal} {i : ℕ} → region_found t n id ≡ NotFound r i → NotFound r i ≡ target_found a image len
+  pub target-denied : {f : Fault} → region_found t n id ≡ Err f → Err f ≡ target_found a image len
   unfolding region_found found_box
   target-denied e = refused (target-region a image len (found-refused a (whole_region a) e))
 
-  module _ {b : ElementBox} (found : region_found t n id ≡ At b) where
+  module _ {b : ElementBox} (found : region_found t n id ≡ Ok b) where
     checked : in_order (region_box_checks a (whole_region a)) ≡ Accepted
     unfolding region_found found_box
     checked = (found_at a (whole_region a) found).0
@@ -49,10 +48,10 @@ module _ (t : RegionTable) (n id : ℕ) (image : PixelSetting) (len : ℕ) where
     unfolding region_found found_box
     is-box = (found_at a (whole_region a) found).1
 
-    unlike : (fills_rectangle image (rectangle_named a) ≡ false) → NotFound Bounds 0 ≡ target_found a image len
+    unlike : (fills_rectangle image (rectangle_named a) ≡ false) → Err (refused_at 0 Bounds) ≡ target_found a image len
     unlike e = refused (target-unlike a image len checked e)
 
-    pub target-wide : (image.width ≡ b.columns → ⊥) → NotFound Bounds 0 ≡ target_found a image len
+    pub target-wide : (image.width ≡ b.columns → ⊥) → Err (refused_at 0 Bounds) ≡ target_found a image len
     unfolding fills_rectangle
     target-wide f =
         let e : eqb image.width (rectangle_named a).columns ≡ false = ne_eqb _ _ (λ s. f (s ∙ sym (ap (λ (x : ElementBox). x.columns) is-box))) in
@@ -62,7 +61,7 @@ module _ (t : RegionTable) (n id : ℕ) (image : PixelSetting) (len : ℕ) where
       wide_is : eqb image.width (rectangle_named a).columns ≡ true
       wide_is = eq-eqb _ _ (wide ∙ ap (λ (x : ElementBox). x.columns) is-box)
 
-      pub target-high : (image.height ≡ b.rows → ⊥) → NotFound Bounds 0 ≡ target_found a image len
+      pub target-high : (image.height ≡ b.rows → ⊥) → Err (refused_at 0 Bounds) ≡ target_found a image len
       unfolding fills_rectangle
       target-high f =
           let e : eqb image.height (rectangle_named a).rows ≡ false = ne_eqb _ _ (λ s. f (s ∙ sym (ap (λ (x : ElementBox). x.rows) is-box))) in
@@ -80,9 +79,9 @@ module _ (t : RegionTable) (n id : ℕ) (image : PixelSetting) (len : ℕ) where
             ∙ in_order-passed (box_checks t.layout (region_box a (whole_region a))) (room_checks t.layout len) (box-passes a (whole_region a) checked)
             ∙ sym (target_room a image len checked fills)
 
-        pub target-refused : {r : Refusal} {i : ℕ} → clear_box_answer t.layout b len ≡ Refused r i → NotFound r i ≡ target_found a image len
+        pub target-refused : {f : Fault} → clear_box_answer t.layout b len ≡ Err f → Err f ≡ target_found a image len
         target-refused e = refused (sym e ∙ room-is)
 
-        pub target-found : clear_box_answer t.layout b len ≡ Accepted → At b ≡ target_found a image len
+        pub target-found : clear_box_answer t.layout b len ≡ Accepted → Ok b ≡ target_found a image len
         unfolding target_found
-        target-found e = ap At is-box ∙ sym (result-given _ _ _ (sym room-is ∙ e))
+        target-found e = ap (λ (x : ElementBox). Ok x) is-box ∙ sym (given-accepted _ (sym room-is ∙ e))

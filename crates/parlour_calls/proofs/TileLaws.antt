@@ -1,11 +1,11 @@
 -- The tile of a strip: the runs of its components one behind another. Assumes nothing.
 --     tile-none, tile-more       no component, and one more
---     within, below              sizes of a strip's components and of those up to one
+--     below                      sizes of those before one more
 --     tile-long                  its length
 use Prim.Native.Nat.{ℕ, suc, ◌+◌, ◌*◌, ◌≤◌, ◌<◌}
 use native.Mathlib.Omega.{arith}
 use native.Mathlib.Numerals.{add-one}
-use native.Mathlib.Nat.{le_refl, mul-le-mul_left, mul-le-mul_right}
+use native.Mathlib.Nat.{le_refl, mul-le-mul_right}
 use mathlib.Core.Path.{◌≡◌, sym, ap, ◌∙◌}
 use mathlib.Core.List.{List}
 use lib.ListN.{length}
@@ -32,10 +32,7 @@ module _ (code size channels : ℕ) (k : Conversion) (precision : ℕ) (pixels :
       ∙ columns-more (pos 0) byte count n 0 count (le_refl count) before
       ∙ ap (λ (m : ℕ). columns byte count m 0 count before) (sym (add-one n))
 
--- m of them are no more than m·count, and those before one more
-pub within : (m count : ℕ) → 1 ≤ count → m ≤ m * count
-within m count h = omega (arith, mul-le-mul_left {m = 1} {n = count} m h)
-
+-- those before one more
 pub below : (n m e : ℕ) → n < m → n * e + e ≤ m * e
 below n m e h = omega (arith, mul-le-mul_right {m = suc n} {n = m} e h)
 

@@ -1,7 +1,7 @@
 -- What the private functions of this crate find and leave. Their contracts cite these; no public promise rests on them. Assumes nothing.
-use Rattle.std.specs.Prelude.{ℕ, ◌+◌, ◌-◌, ◌*◌, ◌<◌, ◌≡◌, Bool, false, List, length, get_or, ℤ, pos}
-use Rattle.refusal.specs.declared.Answer.TheVariants.{Accepted}
-use Rattle.refusal.specs.Checks.{in_order, result}
+use Rattle.std.specs.Prelude.{ℕ, ◌+◌, ◌-◌, ◌*◌, ◌<◌, ◌≡◌, false, List, length, get_or, ℤ, pos, Result}
+use Rattle.refusal.specs.Checks.{in_order, given, Accepted}
+use Rattle.refusal.specs.declared.Fault.{Fault}
 use Rattle.layout.specs.declared.CubeLayout.{CubeLayout}
 use Rattle.layout.specs.declared.ElementBox.{ElementBox}
 use Rattle.layout.specs.Contents.{edited, elements_by}
@@ -9,8 +9,6 @@ use Rattle.layout.specs.Calls.{clear_box_answer}
 use Rattle.pixels.specs.declared.PixelSetting.{PixelSetting}
 use Rattle.quantize.specs.declared.Converted.{Converted}
 use Rattle.quantize.specs.Quantize.{conversion}
-use Rattle.regions.specs.declared.FoundBox.{FoundBox}
-use Rattle.regions.specs.declared.FoundBox.TheVariants.{At, Refused}
 use Rattle.regions.specs.Rules.{Access, region_box, whole_region}
 use Rattle.parlour.specs.declared.Conversion.{Conversion}
 use Rattle.parlour.specs.Components.{component_at, component, converted}
@@ -18,17 +16,17 @@ use Rattle.parlour.specs.Counts.{total, held_one, pixel_held}
 use Rattle.parlour.specs.Rules.{picture_checks, target_checks}
 
 -- the box of the cube that is painted, or refused by 1 to 4, 8, 25, 9, 5
-unfoldable pub target_found : Access → PixelSetting → (len : ℕ) → FoundBox
-target_found a image len = result At Refused (in_order (target_checks a image len)) (region_box a (whole_region a))
+unfoldable pub target_found : Access → PixelSetting → (len : ℕ) → Result ElementBox Fault
+target_found a image len = given (in_order (target_checks a image len)) (region_box a (whole_region a))
 
--- what two tables have for n
-abbrev pub level_at : List ℤ → List Bool → ℕ → Converted
-level_at values flags n = record { value = get_or values n (pos 0); held = get_or flags n false }
+-- a number that is not held: what a list has past its end
+abbrev pub unheld : Converted
+unheld = record { value = pos 0; held = false }
 
--- two tables that have for each byte what it is converted to, and whether it is held
-abbrev pub Levels : Conversion → (precision : ℕ) → List ℤ → List Bool → Type 0
-Levels k precision values flags =
-    (length values ≡ 256) × (length flags ≡ 256) × ((n : ℕ) → n < 256 → level_at values flags n ≡ conversion (pos n) k.offset k.scale k.shift precision)
+-- a table that has for each byte what it is converted to, and whether it is held
+abbrev pub Levels : Conversion → (precision : ℕ) → List Converted → Type 0
+Levels k precision levels =
+    (length levels ≡ 256) × ((n : ℕ) → n < 256 → get_or levels n unheld ≡ conversion (pos n) k.offset k.scale k.shift precision)
 
 -- component i of those that begin `step` bytes apart, converted
 unfoldable pub run_element : (code : ℕ) → Conversion → (precision : ℕ) → List ℕ → (at step i : ℕ) → ℤ

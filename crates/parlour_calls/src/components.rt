@@ -1,15 +1,15 @@
 // Components read from the pixel buffer and converted: a run of one component of pixels side by side, and the runs of a strip of pixels; each tells how
 // many were held at a limit.
 ghost use Rattle.std.specs.Prelude.{◌≡◌, ◌+◌, ◌*◌, ◌≤◌, length};
-ghost use Rattle.refusal.specs.declared.Answer.TheVariants.{Accepted};
-ghost use Rattle.refusal.specs.Checks.{in_order};
+ghost use Rattle.refusal.specs.Checks.{in_order, Accepted};
 ghost use Rattle.columns.specs.Columns.{columns, bytes_set};
 ghost use Rattle.quantize.specs.Quantize.{quantize_checks, conversion};
 ghost use Rattle.parlour.specs.Components.{component_bytes, component_at};
 ghost use Rattle.parlour_calls.specs.Steps.{Levels, run_element, strip_element, run_held, strip_held};
 
+use crate::strips::Painter;
 use parlour::Conversion;
-use quantize::{Converted, Quantized};
+use quantize::Converted;
 
 // The component of two bytes, of a format, that begins at p.
 fn component(code: u32, pixels: &[u8], p: usize) -> i32
@@ -17,16 +17,16 @@ fn component(code: u32, pixels: &[u8], p: usize) -> i32
     ensures { result ≡ component_at code pixels.now p }
 {
     if code == 4 {
-        return elements::from_bytes(pixels[p], pixels[p + 1]) as i32;
+        return i32::from(elements::from_bytes(pixels[p], pixels[p + 1]));
     }
-    let word = pixels[p] as u32 + 256 * (pixels[p + 1] as u32);
+    let word = u16::from_le_bytes([pixels[p], pixels[p + 1]]);
     if code == 1 {
-        return (word % 1024) as i32;
+        return i32::from(word % 1024);
     }
     if code == 2 {
-        return (word % 4096) as i32;
+        return i32::from(word % 4096);
     }
-    word as i32
+    i32::from(word)
 }
 
 // A component converted.
@@ -34,135 +34,78 @@ fn convert(d: i32, k: Conversion, precision: u32) -> Converted
     requires { in_order (quantize_checks precision k.shift) ≡ Accepted }
     ensures { result ≡ conversion d k.offset k.scale k.shift precision }
 {
-    match quantize::convert(d, k.offset, k.scale, k.shift, precision) {
-        Quantized::Refused(_, _) => Converted {
-            value: 0,
-            held: false,
-        },
-        Quantized::Value(c) => c,
-    }
+    quantize::convert(d, k.offset, k.scale, k.shift, precision).unwrap()
 }
 
 // What each byte is converted to, and whether it is held.
-pub(crate) fn levels(
-    k: Conversion,
-    precision: u32,
-    values: &mut [i16; 256],
-    flags: &mut [bool; 256],
-)
-    requires shift_value { in_order (quantize_checks precision k.shift) ≡ Accepted }
-    requires values_len { (length values.old ≡ 256) × (length flags.old ≡ 256) }
-    ensures { Levels k precision values.new flags.new }
+pub(crate) fn levels(k: Conversion, precision: u32) -> [Converted; 256]
+    requires { in_order (quantize_checks precision k.shift) ≡ Accepted }
+    ensures { Levels k precision result }
 {
-    let mut n: usize = 0;
-    while n < 256 {
-        let c = convert(n as i32, k, precision);
-        let value = c.value;
-        values[n] = value;
-        flags[n] = c.held;
-        n += 1;
+    let none = Converted {
+        value: 0,
+        held: false,
+    };
+    let mut levels = [none; 256];
+    for n in 0..256 {
+        levels[n] = convert(n as i32, k, precision);
     }
+    levels
 }
 
-// The component that begins at p, converted; one of a byte is looked up.
-fn converted_at(
-    code: u32,
-    size: u32,
-    k: Conversion,
-    precision: u32,
-    values: &[i16; 256],
-    flags: &[bool; 256],
-    pixels: &[u8],
-    p: usize,
-) -> Converted
-    requires size_value { (size ≡ component_bytes code) × (1 ≤ size) × (size ≤ 2) × (in_order (quantize_checks precision k.shift) ≡ Accepted) }
-    requires size_in_bounds { p + size ≤ length pixels.now }
-    requires levels { Levels k precision values.now flags.now }
-    ensures { result ≡ conversion (component_at code pixels.now p) k.offset k.scale k.shift precision }
-{
-    if size == 1 {
-        let b = pixels[p] as usize;
-        return Converted {
-            value: values[b],
-            held: flags[b],
-        };
+impl Painter {
+    // The component that begins at p, converted; one of a byte is looked up.
+    fn converted_at(&self, pixels: &[u8], p: usize) -> Converted
+        requires { p + self.now.size ≤ length pixels.now }
+        ensures { result ≡ conversion (component_at self.now.image.format pixels.now p) self.now.conversion.offset self.now.conversion.scale self.now.conversion.shift self.now.layout.precision }
+    {
+        if self.size == 1 {
+            return self.levels[pixels[p] as usize];
+        }
+        let d = component(self.image.format, pixels, p);
+        convert(d, self.conversion, self.layout.precision)
     }
-    convert(component(code, pixels, p), k, precision)
-}
 
-// One component of `count` pixels that begin `step` bytes apart, converted, from element `from` on. Returned: how many were held.
-fn convert_run(
-    code: u32,
-    size: u32,
-    k: Conversion,
-    precision: u32,
-    values: &[i16; 256],
-    flags: &[bool; 256],
-    pixels: &[u8],
-    at: usize,
-    step: usize,
-    count: usize,
-    tile: &mut [i16; 1024],
-    from: usize,
-) -> u64
-    requires size_value { (size ≡ component_bytes code) × (1 ≤ size) × (size ≤ 2) × (in_order (quantize_checks precision k.shift) ≡ Accepted) }
-    requires size_in_bounds { (at + step * count + size ≤ length pixels.now + step) × (from + count ≤ 1024) × (length tile.old ≡ 1024) }
-    requires levels { Levels k precision values.now flags.now }
-    ensures converted { tile.new ≡ bytes_set (run_element code k precision pixels.now at step) count from tile.old }
-    ensures counted { result ≡ run_held code k precision pixels.now at step count }
-{
-    let mut held: u64 = 0;
-    let mut i: usize = 0;
-    while i < count {
-        let p = at + step * i;
-        let c = converted_at(code, size, k, precision, values, flags, pixels, p);
-        let value = c.value;
-        tile[from + i] = value;
-        held += c.held as u64;
-        i += 1;
+    // One component of `count` pixels side by side, the first's from byte `at` on, converted, from element `from` on. Returned: how many were held.
+    fn convert_run(
+        &self,
+        pixels: &[u8],
+        at: usize,
+        count: usize,
+        tile: &mut [i16; 1024],
+        from: usize,
+    ) -> u64
+        requires { (at + self.now.image.channels * self.now.size * count + self.now.size ≤ length pixels.now + self.now.image.channels * self.now.size) × (from + count ≤ 1024) }
+        ensures converted { tile.new ≡ bytes_set (run_element self.now.image.format self.now.conversion self.now.layout.precision pixels.now at (self.now.image.channels * self.now.size)) count from tile.old }
+        ensures counted { result ≡ run_held self.now.image.format self.now.conversion self.now.layout.precision pixels.now at (self.now.image.channels * self.now.size) count }
+    {
+        let step = self.image.channels as usize * self.size as usize;
+        let mut held: u64 = 0;
+        for i in 0..count {
+            let c = self.converted_at(pixels, at + step * i);
+            tile[from + i] = c.value;
+            held += c.held as u64;
+        }
+        held
     }
-    held
-}
 
-// Every component of `count` pixels, converted: those of component n from element n·count on. Returned: how many were held.
-pub(crate) fn convert_strip(
-    code: u32,
-    size: u32,
-    channels: u32,
-    k: Conversion,
-    precision: u32,
-    values: &[i16; 256],
-    flags: &[bool; 256],
-    pixels: &[u8],
-    at: usize,
-    count: usize,
-    tile: &mut [i16; 1024],
-) -> u64
-    requires levels { Levels k precision values.now flags.now }
-    requires size_value { (size ≡ component_bytes code) × (1 ≤ size) × (size ≤ 2) × (in_order (quantize_checks precision k.shift) ≡ Accepted) }
-    requires le_count { (1 ≤ count) × (at + channels * size * count ≤ length pixels.now) × (channels * count ≤ 1024) × (length tile.old ≡ 1024) }
-    ensures converted { tile.new ≡ columns (strip_element code size channels k precision pixels.now at) count channels 0 count tile.old }
-    ensures counted { result ≡ strip_held code size channels k precision pixels.now at count }
-{
-    let step = channels as usize * size as usize;
-    let mut held: u64 = 0;
-    let mut n: u32 = 0;
-    while n < channels {
-        held += convert_run(
-            code,
-            size,
-            k,
-            precision,
-            values,
-            flags,
-            pixels,
-            at + n as usize * size as usize,
-            step,
-            count,
-            tile,
-            count * n as usize,
-        );
-        n += 1;
+    // Every component of `count` pixels, converted: those of component n from element n·count on. Returned: how many were held.
+    pub(crate) fn convert_strip(
+        &self,
+        pixels: &[u8],
+        at: usize,
+        count: usize,
+        tile: &mut [i16; 1024],
+    ) -> u64
+        requires { (1 ≤ count) × (at + self.now.image.channels * self.now.size * count ≤ length pixels.now) × (self.now.image.channels * count ≤ 1024) }
+        ensures converted { tile.new ≡ columns (strip_element self.now.image.format self.now.size self.now.image.channels self.now.conversion self.now.layout.precision pixels.now at) count self.now.image.channels 0 count tile.old }
+        ensures counted { result ≡ strip_held self.now.image.format self.now.size self.now.image.channels self.now.conversion self.now.layout.precision pixels.now at count }
+    {
+        let size = self.size as usize;
+        let mut held: u64 = 0;
+        for n in 0..self.image.channels as usize {
+            held += self.convert_run(pixels, at + n * size, count, tile, count * n);
+        }
+        held
     }
-    held
 }

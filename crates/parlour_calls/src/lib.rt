@@ -11,8 +11,26 @@ ghost use Rattle.parlour.specs.Calls.{paint_held, paint_buffer};
 
 use parlour::{Conversion, PaintOutcome};
 use pixels::PixelSetting;
-use refusal::{Answer, Quantity};
-use regions::{FoundBox, RegionTable};
+use refusal::Quantity;
+use regions::RegionTable;
+
+// The checks, and the painting where they pass: how many components were held at a limit.
+fn painted(
+    table: RegionTable,
+    slot: u32,
+    id: u32,
+    image: PixelSetting,
+    pixels: &[u8],
+    conversion: Conversion,
+    buffer: &mut [u8],
+) -> Quantity
+    ensures counted { result ≡ paint_held table slot id image pixels.now conversion (length buffer.old) }
+    ensures left { buffer.new ≡ paint_buffer table slot id image pixels.now conversion buffer.old }
+{
+    rules::check_picture(table.layout, image, conversion.shift, pixels.len())?;
+    let target = rules::find_target(table, slot, id, image, buffer.len())?;
+    Ok(strips::paint_rows(table.layout, target, image, pixels, conversion, buffer))
+}
 
 // Paints the region in a slot: component n of pixel (x, y), converted to the cube's precision, becomes the element of channel n, row y and column x of
 // the region; no other byte changes. Tells how many components were held at a limit.
@@ -29,23 +47,8 @@ pub fn paint(
     ensures kept { result.table ≡ table }
     ensures left { buffer.new ≡ paint_buffer table slot id image pixels.now conversion buffer.old }
 {
-    match rules::check_picture(table.layout, image, conversion.shift, pixels.len()) {
-        Answer::Refused(refusal, at) => PaintOutcome {
-            held: Quantity::Refused(refusal, at),
-            table: table,
-        },
-        Answer::Accepted => match rules::find_target(table, slot, id, image, buffer.len()) {
-            FoundBox::Refused(refusal, at) => PaintOutcome {
-                held: Quantity::Refused(refusal, at),
-                table: table,
-            },
-            FoundBox::At(all) => {
-                let held = strips::paint_rows(table.layout, all, image, pixels, conversion, buffer);
-                PaintOutcome {
-                    held: Quantity::Is(held),
-                    table: table,
-                }
-            }
-        },
+    PaintOutcome {
+        held: painted(table, slot, id, image, pixels, conversion, buffer),
+        table,
     }
 }
