@@ -1,6 +1,8 @@
 // One-plane pixel images: the types of their formats and settings (scope paper, "Pixels"). The calls are in `pixels_calls`.
 #![tactic(auto)]
 
+// Format and precision stay numbers, and no enums: a setting may hold any, and the checks refuse those past the table (19, 20).
+
 // Channels, bytes a pixel, precision code and largest X offset of a pixel format.
 #[derive(Clone, Copy)]
 pub struct PixelFormat {
