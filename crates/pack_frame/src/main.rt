@@ -4,7 +4,7 @@
 ghost use Rattle.std.specs.Prelude.{◌≡◌, ℕ, ◌%◌, ◌<◌, pos, ◌-ℤ◌, length, get_or};
 
 use layout::CubeLayout;
-use refusal::{Answer, Refusal};
+use refusal::{Fault, Refusal};
 
 // The descriptor of standard output.
 const STDOUT_FILENO: i32 = 1;
@@ -33,10 +33,8 @@ fn element(i: usize) -> i16
 fn fill(elements: &mut [i16])
     ensures { (k : ℕ) → k < length elements.old → get_or elements.new k (pos 0) ≡ pos (k % 251) -ℤ pos 125 }
 {
-    let mut i = 0;
-    while i < elements.len() {
-        elements[i] = element(i);
-        i += 1;
+    for (i, x) in elements.iter_mut().enumerate() {
+        *x = element(i);
     }
 }
 
@@ -48,10 +46,8 @@ fn print_byte(byte: u8) {
 
 // Each byte in turn.
 fn print_bytes(bytes: &[u8]) {
-    let mut i = 0;
-    while i < bytes.len() {
-        print_byte(bytes[i]);
-        i += 1;
+    for &byte in bytes {
+        print_byte(byte);
     }
 }
 
@@ -64,11 +60,8 @@ fn print_line(offset: usize, line: &[u8]) {
 
 // A line for each atom of 32 bytes; fewer bytes at the end are not printed.
 fn print_buffer(buffer: &[u8]) {
-    let mut offset = 0;
-    while 32 <= buffer.len() - offset {
-        let end = offset + 32;
-        print_line(offset, &buffer[offset..end]);
-        offset = end;
+    for (i, line) in buffer.chunks_exact(32).enumerate() {
+        print_line(32 * i, line);
     }
 }
 
@@ -83,9 +76,8 @@ fn main() {
     let mut elements = [0i16; 240];
     fill(&mut elements);
     let mut buffer = [238u8; 480];
-    let answer = cube::pack(example_layout(), &elements, &mut buffer);
-    match answer {
-        Answer::Accepted => print_buffer(&buffer),
-        Answer::Refused(r, _) => print_refusal(r),
+    match cube::pack(example_layout(), &elements, &mut buffer) {
+        Ok(()) => print_buffer(&buffer),
+        Err(Fault(refusal, _)) => print_refusal(refusal),
     }
 }
