@@ -1,9 +1,7 @@
 -- A worked case: what the definitions give, and what the scope paper prints. An answer is given as its number, 0 where the call is accepted; a value that is
 -- refused as no number. Assumes nothing.
-use Rattle.std.specs.Prelude.{ℕ, Bool, true, false, ◌&&◌, not, List, [], ◌∷◌, ℤ, pos}
-use Rattle.refusal.specs.declared.Answer.{Answer}
-use Rattle.refusal.specs.declared.Quantity.{Quantity}
-use Rattle.refusal.specs.declared.Quantity.TheVariants.{Is, Refused as NotGiven}
+use Rattle.std.specs.Prelude.{ℕ, Bool, true, false, ◌&&◌, not, List, [], ◌∷◌, ℤ, pos, Ok, Err}
+use Rattle.refusal.specs.Checks.{Answer, Quantity}
 use Rattle.refusal.specs.Codes.{answer_code}
 use Rattle.lut.specs.Rules.{same_z}
 
@@ -24,8 +22,8 @@ answers a paper = number (answer_code a) paper
 
 -- a quantity
 abbrev pub quantity_of : Quantity → List ℤ
-quantity_of (Is n) = pos n ∷ []
-quantity_of (NotGiven r at) = []
+quantity_of (Ok n) = pos n ∷ []
+quantity_of (Err fault) = []
 
 -- the same numbers in the same order
 unfoldable pub same_numbers : List ℤ → List ℤ → Bool

@@ -1,13 +1,13 @@
 -- The starred cases of conversion (scope paper, "Worked on squared paper"). Assumes nothing.
-use Rattle.std.specs.Prelude.{List, [], ◌∷◌, ℤ, pos, negsuc}
-use Rattle.quantize.specs.declared.Quantized.{Quantized}
-use Rattle.quantize.specs.declared.Quantized.TheVariants.{Value, Refused as NotGiven}
+use Rattle.std.specs.Prelude.{List, [], ◌∷◌, ℤ, pos, negsuc, Result, Ok, Err}
+use Rattle.refusal.specs.declared.Fault.{Fault}
+use Rattle.quantize.specs.declared.Converted.{Converted}
 use Rattle.quantize.specs.Quantize.{quantize_answer}
 use Rattle.worked.specs.Cases.{Case, gives}
 
-abbrev pub converted : Quantized → List ℤ
-converted (Value c) = c.value ∷ []
-converted (NotGiven r at) = []
+abbrev pub converted : Result Converted Fault → List ℤ
+converted (Ok c) = c.value ∷ []
+converted (Err fault) = []
 
 unfoldable pub conversion_cases : List Case
 conversion_cases =
