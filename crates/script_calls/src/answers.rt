@@ -1,178 +1,138 @@
 // What each record answers, its value, and the desk after it: whether a frame was accepted, and its region table (scope paper, "The sheet program";
 // change request K1).
-ghost use Rattle.std.specs.Prelude.{◌*◌, ◌<◌, ◌≡◌};
-ghost use Rattle.refusal.specs.declared.Answer.TheVariants.{Accepted};
+ghost use Rattle.std.specs.Prelude.{◌*◌, ◌<◌, ◌≡◌, Some};
+ghost use Rattle.refusal.specs.Checks.{Accepted};
 ghost use Rattle.records.specs.declared.Record.TheVariants.{Frame, Stall, Cell, Leave};
 ghost use Rattle.regions.specs.Slots.{rectangle};
 ghost use Rattle.regions.specs.Calls.{no_region, with_slot, place_answer};
-ghost use Rattle.script_calls.specs.Steps.{desk, after_record, refused_record};
+ghost use Rattle.script.specs.Rows.{framed_or};
+ghost use Rattle.script_calls.specs.Steps.{recorded};
 
-use crate::After;
 use layout::CubeLayout;
 use records::Record;
-use refusal::{Answer, Quantity, Refusal};
+use refusal::{Answer, Fault, Refusal};
 use regions::{Rectangle, RegionTable};
+use script::Desk;
 
-// A refusal: its value is 0, and the desk stays.
-fn refused(framed: bool, table: RegionTable, refusal: Refusal, at: usize) -> After
-    ensures { result ≡ refused_record (desk framed table) refusal at }
+// What an accepted record gives: its value, and the desk after it.
+#[derive(Clone, Copy)]
+pub(crate) struct Done {
+    pub value: u64,
+    pub desk: Desk,
+}
+
+// Before an accepted frame any record but a frame is refused.
+#[tactic(auto, unfolding(script::specs::Rows::framed_or))]
+fn check_framed(desk: Desk) -> Answer
+    ensures { result ≡ framed_or desk Accepted }
 {
-    After {
-        answer: Answer::Refused(refusal, at),
-        value: 0,
-        framed: framed,
-        table: table,
+    if !desk.framed {
+        return Err(Fault(Refusal::Size, 0));
     }
+    Ok(())
 }
 
 // A frame: its extent. Accepted, it empties the slots.
-fn frame(framed: bool, table: RegionTable, layout: CubeLayout) -> After
-    ensures { result ≡ after_record (desk framed table) (Frame layout) }
+fn frame(desk: Desk, layout: CubeLayout) -> Result<Done, Fault>
+    ensures { result ≡ recorded desk (Some (Frame layout)) }
 {
-    match layout_calls::extent(layout) {
-        Quantity::Refused(refusal, at) => refused(framed, table, refusal, at),
-        Quantity::Is(value) => {
-            let empty = regions_calls::empty(layout);
-            After {
-                answer: Answer::Accepted,
-                value: value,
-                framed: true,
-                table: empty,
-            }
-        }
-    }
+    let value = layout_calls::extent(layout)?;
+    let desk = Desk {
+        framed: true,
+        table: regions_calls::empty(layout),
+    };
+    Ok(Done { value, desk })
 }
 
 // The elements of a region that was placed: columns, rows and channels.
-fn region_count(
-    table: RegionTable,
-    slot: u32,
-    column: u32,
-    row: u32,
-    columns: u32,
-    rows: u32,
-    id: u32,
-) -> u64
-    requires { place_answer table slot id (rectangle column row columns rows) ≡ Accepted }
-    ensures { result ≡ columns * rows * table.layout.channels }
+fn region_count(table: RegionTable, slot: u32, id: u32, rectangle: Rectangle) -> u64
+    requires { place_answer table slot id rectangle ≡ Accepted }
+    ensures { result ≡ rectangle.columns * rectangle.rows * table.layout.channels }
 {
-    columns as u64 * rows as u64 * table.layout.channels as u64
+    rectangle.columns as u64 * rectangle.rows as u64 * table.layout.channels as u64
 }
 
 // A stall: its cell count. Accepted, it is placed.
-fn stall(
-    framed: bool,
-    table: RegionTable,
-    slot: u32,
-    column: u32,
-    row: u32,
-    columns: u32,
-    rows: u32,
-    id: u32,
-) -> After
-    ensures { result ≡ after_record (desk framed table) (Stall slot column row columns rows id) }
+fn stall(desk: Desk, slot: u32, id: u32, rectangle: Rectangle) -> Result<Done, Fault>
+    ensures { result ≡ recorded desk (Some (Stall slot rectangle.column rectangle.row rectangle.columns rectangle.rows id)) }
 {
-    if !framed {
-        return refused(framed, table, Refusal::Size, 0);
-    }
-    let rectangle = Rectangle {
-        column: column,
-        row: row,
-        columns: columns,
-        rows: rows,
-    };
-    let placed = regions_calls::place(table, slot, id, rectangle);
-    let answer = placed.answer;
-    let after = placed.table;
-    match answer {
-        Answer::Refused(refusal, at) => refused(framed, table, refusal, at),
-        Answer::Accepted => {
-            let value = region_count(table, slot, column, row, columns, rows, id);
-            After {
-                answer: Answer::Accepted,
-                value: value,
-                framed: framed,
-                table: after,
-            }
-        }
-    }
+    check_framed(desk)?;
+    let placed = regions_calls::place(desk.table, slot, id, rectangle);
+    placed.answer?;
+    Ok(Done {
+        value: region_count(desk.table, slot, id, rectangle),
+        desk: Desk {
+            table: placed.table,
+            ..desk
+        },
+    })
 }
 
 // A cell of a stall: its byte position.
-fn cell(
-    framed: bool,
-    table: RegionTable,
-    slot: u32,
-    channel: u32,
-    row: u32,
-    column: u32,
-    id: u32,
-) -> After
-    ensures { result ≡ after_record (desk framed table) (Cell slot channel row column id) }
+fn cell(desk: Desk, slot: u32, channel: u32, row: u32, column: u32, id: u32) -> Result<Done, Fault>
+    ensures { result ≡ recorded desk (Some (Cell slot channel row column id)) }
 {
-    if !framed {
-        return refused(framed, table, Refusal::Size, 0);
-    }
-    match regions_calls::position(table, slot, id, channel, row, column) {
-        Quantity::Refused(refusal, at) => refused(framed, table, refusal, at),
-        Quantity::Is(value) => After {
-            answer: Answer::Accepted,
-            value: value,
-            framed: framed,
-            table: table,
-        },
-    }
+    check_framed(desk)?;
+    let value = regions_calls::position(desk.table, slot, id, channel, row, column)?;
+    Ok(Done { value, desk })
 }
 
 // The table with one slot emptied: the sheet has no buffer, so that no cell is cleared.
-fn emptied(table: RegionTable, slot: u32) -> RegionTable
+fn emptied(mut table: RegionTable, slot: u32) -> RegionTable
     requires { slot < 16 }
     ensures { result ≡ with_slot table slot no_region }
 {
-    let layout = table.layout;
-    let mut slots = table.slots;
-    let i = slot as usize;
-    slots[i] = regions_calls::none();
-    RegionTable {
-        layout: layout,
-        slots: slots,
-    }
+    table.slots[slot as usize] = regions_calls::none();
+    table
 }
 
 // A stall that is left: how many cells it had. Accepted, its slot is emptied.
-fn leave(framed: bool, table: RegionTable, slot: u32, id: u32) -> After
-    ensures { result ≡ after_record (desk framed table) (Leave slot id) }
+fn leave(desk: Desk, slot: u32, id: u32) -> Result<Done, Fault>
+    ensures { result ≡ recorded desk (Some (Leave slot id)) }
 {
-    if !framed {
-        return refused(framed, table, Refusal::Size, 0);
-    }
-    match regions_calls::count(table, slot, id) {
-        Quantity::Refused(refusal, at) => refused(framed, table, refusal, at),
-        Quantity::Is(count) => {
-            let left = emptied(table, slot);
-            After {
-                answer: Answer::Accepted,
-                value: count,
-                framed: framed,
-                table: left,
-            }
-        }
-    }
+    check_framed(desk)?;
+    let value = regions_calls::count(desk.table, slot, id)?;
+    let desk = Desk {
+        table: emptied(desk.table, slot),
+        ..desk
+    };
+    Ok(Done { value, desk })
 }
 
-// Any record.
-pub(crate) fn after_record(framed: bool, table: RegionTable, item: Record) -> After
-    ensures { result ≡ after_record (desk framed table) item }
+// Any record, or a line that is none.
+pub(crate) fn after_record(desk: Desk, item: Option<Record>) -> Result<Done, Fault>
+    ensures { result ≡ recorded desk item }
 {
     match item {
-        Record::Frame(layout) => frame(framed, table, layout),
-        Record::Stall(slot, column, row, columns, rows, id) => stall(
-            framed, table, slot, column, row, columns, rows, id,
-        ),
-        Record::Cell(slot, channel, row, column, id) => cell(
-            framed, table, slot, channel, row, column, id,
-        ),
-        Record::Leave(slot, id) => leave(framed, table, slot, id),
-        Record::Unreadable => refused(framed, table, Refusal::ScriptLine, 0),
+        Some(Record::Frame(layout)) => frame(desk, layout),
+        Some(
+            Record::Stall {
+                slot,
+                column,
+                row,
+                columns,
+                rows,
+                id,
+            },
+        ) => {
+            let rectangle = Rectangle {
+                column,
+                row,
+                columns,
+                rows,
+            };
+            stall(desk, slot, id, rectangle)
+        }
+        Some(
+            Record::Cell {
+                slot,
+                channel,
+                row,
+                column,
+                id,
+            },
+        ) => cell(desk, slot, channel, row, column, id),
+        Some(Record::Leave { slot, id }) => leave(desk, slot, id),
+        None => Err(Fault(Refusal::ScriptLine, 0)),
     }
 }

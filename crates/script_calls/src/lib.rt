@@ -11,20 +11,10 @@ ghost use Rattle.script.specs.Output.{header, fields_text, row_text, given_text}
 
 use layout::CubeLayout;
 use lines::Line;
-use refusal::Answer;
-use regions::RegionTable;
-use script::{Fed, Given, Row, Sheet};
-
-// What a record answers, its value, and the desk after it.
-#[derive(Drop)]
-struct After {
-    answer: Answer,
-    value: u64,
-    framed: bool,
-    table: RegionTable,
-}
+use script::{Desk, Fed, Row, Sheet};
 
 // The state at the beginning.
+#[tactic(auto, unfolding(script::specs::Feed::start_sheet))]
 pub fn begin() -> Sheet
     ensures { result ≡ start_sheet }
 {
@@ -37,12 +27,12 @@ pub fn begin() -> Sheet
         surface: 0,
         start: 0,
     };
-    let table = regions_calls::empty(layout);
-    let lines = lines_calls::begin();
     Sheet {
-        lines: lines,
-        framed: false,
-        table: table,
+        lines: lines_calls::begin(),
+        desk: Desk {
+            framed: false,
+            table: regions_calls::empty(layout),
+        },
     }
 }
 
@@ -50,28 +40,20 @@ pub fn begin() -> Sheet
 fn end_line(sheet: Sheet, read: usize) -> Fed
     ensures { result ≡ line_fed sheet read }
 {
-    let before = sheet.lines;
-    let line = before.line;
-    let item = records::of_line(line);
-    let lines = lines_calls::next(before);
-    let desk = sheet.table;
-    let a = answers::after_record(sheet.framed, desk, item);
-    let table = a.table;
-    let answer = a.answer;
-    let row = Row {
-        line: lines.count,
-        answer: answer,
-        value: a.value,
-    };
-    let next = Sheet {
-        lines: lines,
-        framed: a.framed,
-        table: table,
+    let item = records::of_line(sheet.lines.line);
+    let lines = lines_calls::next(sheet.lines);
+    let (answer, value, desk) = match answers::after_record(sheet.desk, item) {
+        Ok(done) => (Ok(()), done.value, done.desk),
+        Err(fault) => (Err(fault), 0, sheet.desk),
     };
     Fed {
-        sheet: next,
-        read: read,
-        given: Given::Line(row),
+        sheet: Sheet { lines, desk },
+        read,
+        given: Some(Row {
+            line: lines.count,
+            answer,
+            value,
+        }),
     }
 }
 
@@ -79,36 +61,31 @@ fn end_line(sheet: Sheet, read: usize) -> Fed
 pub fn feed(sheet: Sheet, part: &[u8]) -> Fed
     ensures { result ≡ fed sheet part.now }
 {
-    let before = sheet.lines;
-    let c = lines_calls::collect(before, part);
-    let lines = c.lines;
-    let table = sheet.table;
-    let next = Sheet {
-        lines: lines,
-        framed: sheet.framed,
-        table: table,
+    let c = lines_calls::collect(sheet.lines, part);
+    let sheet = Sheet {
+        lines: c.lines,
+        ..sheet
     };
     if c.ended {
-        return end_line(next, c.read);
+        return end_line(sheet, c.read);
     }
     Fed {
-        sheet: next,
+        sheet,
         read: c.read,
-        given: Given::Nothing,
+        given: None,
     }
 }
 
 // The end of the input: a last line may lack its newline.
+#[tactic(auto, unfolding(script::specs::Feed::finished))]
 pub fn finish(sheet: Sheet) -> Fed
     ensures { result ≡ finished sheet }
 {
-    let lines = sheet.lines;
-    let line = lines.line;
-    if line.length == 0 {
+    if sheet.lines.line.length == 0 {
         return Fed {
-            sheet: sheet,
+            sheet,
             read: 0,
-            given: Given::Nothing,
+            given: None,
         };
     }
     end_line(sheet, 0)
@@ -119,16 +96,14 @@ pub fn finish(sheet: Sheet) -> Fed
 pub fn header_text() -> Line
     ensures { result ≡ written header }
 {
-    let empty = lines_calls::empty();
-    lines_calls::add(empty, b"line\tanswer\tvalue\n")
+    lines_calls::add(lines_calls::empty(), b"line\tanswer\tvalue\n")
 }
 
 // A line's number, its answer and its value, which is negative if a minus is asked for.
 pub fn fields_text(line: u64, answer: u32, minus: bool, value: u64) -> Line
     ensures { result ≡ written (fields_text line answer (signed minus value)) }
 {
-    let empty = lines_calls::empty();
-    let first = lines_calls::add_number(empty, line);
+    let first = lines_calls::add_number(lines_calls::empty(), line);
     let second = lines_calls::add(first, b"\t");
     let third = lines_calls::add_number(second, answer as u64);
     let fourth = lines_calls::add(third, b"\t");
@@ -140,17 +115,17 @@ pub fn fields_text(line: u64, answer: u32, minus: bool, value: u64) -> Line
 pub fn row_text(row: Row) -> Line
     ensures { result ≡ written (row_text row) }
 {
-    let answer = row.answer;
-    let code = refusal::answer_code(answer);
+    let code = refusal::answer_code(row.answer);
     fields_text(row.line, code, false, row.value)
 }
 
 // The row of a line that ended, or nothing.
-pub fn given_text(given: Given) -> Line
+#[tactic(auto, unfolding(script::specs::Output::given_text))]
+pub fn given_text(given: Option<Row>) -> Line
     ensures { result ≡ written (given_text given) }
 {
     match given {
-        Given::Nothing => lines_calls::empty(),
-        Given::Line(row) => row_text(row),
+        None => lines_calls::empty(),
+        Some(row) => row_text(row),
     }
 }

@@ -12,5 +12,5 @@ returns c =
     let answer : a.answer < 2 ^ 64 = omega (arith, c.ranges.answer) in
     let value : a.value < 2 ^ 64 = omega (arith, c.ranges.value) in
     c.add.ensures
-    ∙ rw (c.add_signed-fifth.ensures, c.add-fourth.ensures, c.add_number-third.ensures, c.add-second.ensures, c.add_number-first.ensures, c.empty-empty.ensures)
+    ∙ rw (c.add_signed-fifth.ensures, c.add-fourth.ensures, c.add_number-third.ensures, c.add-second.ensures, c.add_number-first.ensures, c.empty.ensures)
     (fields-is a.line a.answer a.value a.minus line answer value)

@@ -6,4 +6,4 @@ use Rattle.script.proofs.OutputLaws.{written_all}
 use Rattle.script_calls.proofs.header_text.Goals as goal
 
 pub returns : goal.returns
-returns c = c.add.ensures ∙ rw c.empty-empty.ensures (written_all header (omega arith))
+returns c = c.add.ensures ∙ rw c.empty.ensures (written_all header (omega arith))

@@ -1,8 +1,9 @@
 -- `script_calls::answers::after_record` meets its contract: each case calls its own. Assumes nothing.
-use mathlib.Core.Path.{◌∙◌}
-use Rattle.script_calls.specs.Steps.{desk}
-use Rattle.script_calls.proofs.AnswerLaws.{record-unreadable}
+use Rattle.std.proofs.Common.{None, refl}
+use Rattle.script.specs.Rows.{record_answer}
+use Rattle.script_calls.proofs.AnswerLaws.{recorded-refused}
 use Rattle.script_calls.proofs.answers.after_record.Goals as goal
 
-pub returns-in-Unreadable : goal.returns-in-Unreadable
-returns-in-Unreadable c = let a = c.args in rw c.in-Unreadable.is (c.refused.ensures ∙ record-unreadable (desk a.framed a.table))
+pub returns-in-None : goal.returns-in-None
+unfolding record_answer
+returns-in-None c = rw c.in-None.is (recorded-refused c.args.desk None refl)

@@ -1,13 +1,15 @@
 -- `script_calls::answers::frame` meets its contract: the extent, or its refusal. Assumes nothing.
 use mathlib.Core.Path.{sym, ◌∙◌}
-use Rattle.script_calls.specs.Steps.{desk}
-use Rattle.script_calls.proofs.AnswerLaws.{frame_refused, frame-valid}
+use Rattle.refusal.proofs.CheckLaws.{handed-on}
+use Rattle.script_calls.proofs.AnswerLaws.{frame-refused, frame-valid}
 use Rattle.script_calls.proofs.answers.frame.Goals as goal
 
-pub returns-in-Refused : goal.returns-in-Refused
-returns-in-Refused c = let a = c.args in
-    c.refused.ensures ∙ frame_refused (desk a.framed a.table) a.layout (sym c.extent.ensures ∙ c.in-Refused.is)
+pub returns-in_err-value : goal.returns-in_err-value
+returns-in_err-value c =
+    let a = c.args in
+    handed-on _ c.from_residual.ensures.1 ∙ frame-refused a.desk a.layout (sym c.extent.ensures ∙ c.in_err-value.was)
 
-pub returns-in-Is : goal.returns-in-Is
-returns-in-Is c = let a = c.args in
-    rw c.empty-empty.ensures (frame-valid (desk a.framed a.table) a.layout (sym c.extent.ensures ∙ c.in-Is.is))
+pub returns : goal.returns
+returns c =
+    let a = c.args in
+    rw c.empty.ensures (frame-valid a.desk a.layout (sym c.extent.ensures ∙ c.in_ok-value.was))

@@ -5,5 +5,4 @@ use Rattle.script_calls.proofs.AnswerLaws.{count-all-le}
 use Rattle.script_calls.proofs.answers.region_count.Goals as goal
 
 pub overflow_mul-result-2 : goal.overflow_mul-result-2
-overflow_mul-result-2 c = let a = c.args in
-    omega (arith, count-all-le a.table a.slot a.column a.row a.columns a.rows a.id c.requires)
+overflow_mul-result-2 c = let a = c.args in omega (arith, count-all-le a.table a.slot a.id a.rectangle c.requires)

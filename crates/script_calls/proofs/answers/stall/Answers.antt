@@ -1,25 +1,23 @@
 -- `script_calls::answers::stall` meets its contract: before a frame it is refused, after one it is placed, or refused as the placing is. Assumes nothing.
 use mathlib.Core.Path.{sym, ◌∙◌}
-use Rattle.script_calls.specs.Steps.{desk}
+use Rattle.refusal.proofs.CheckLaws.{handed-on}
 use Rattle.script_calls.proofs.AnswerLaws.{stall-unframed, stall-refused, stall-placed}
 use Rattle.script_calls.proofs.answers.stall.Goals as goal
 
-pub returns-then-not-framed : goal.returns-then-not-framed
-returns-then-not-framed c =
+pub returns-in_err-check_framed : goal.returns-in_err-check_framed
+returns-in_err-check_framed c =
     let a = c.args in
-    c.refused.ensures ∙ stall-unframed (desk a.framed a.table) a.slot a.column a.row a.columns a.rows a.id c.if-not-framed.true
+    handed-on _ c.from_residual.ensures.1 ∙ stall-unframed a.desk a.slot a.id a.rectangle (sym c.check_framed.ensures ∙ c.in_err-check_framed.was)
 
-pub returns-in-Refused : goal.returns-in-Refused
-returns-in-Refused c =
+pub returns-in_err-placed : goal.returns-in_err-placed
+returns-in_err-placed c =
     let a = c.args in
-    c.refused-in-Refused.ensures
-    ∙ stall-refused (desk a.framed a.table) a.slot a.column a.row a.columns a.rows a.id c.if-not-framed.false
-    (sym c.place-placed.ensures.answered ∙ c.in-Refused.is)
+    let framed = sym c.check_framed.ensures ∙ c.in_ok-check_framed.was in
+    handed-on _ c.from_residual-in_err-placed.ensures.1
+    ∙ stall-refused a.desk a.slot a.id a.rectangle framed (sym c.place-placed.ensures.answered ∙ c.in_err-placed.was)
 
-pub returns-in-Accepted : goal.returns-in-Accepted
-returns-in-Accepted c =
+pub returns : goal.returns
+returns c =
     let a = c.args in
-    stall-placed (desk a.framed a.table) a.slot a.column a.row a.columns a.rows a.id c.if-not-framed.false
-    (sym c.place-placed.ensures.answered ∙ c.in-Accepted.is)
-    c.region_count-value.ensures
-    c.place-placed.ensures.left
+    let framed = sym c.check_framed.ensures ∙ c.in_ok-check_framed.was in
+    stall-placed a.desk a.slot a.id a.rectangle framed (sym c.place-placed.ensures.answered ∙ c.in_ok-placed.was) c.region_count.ensures c.place-placed.ensures.left
