@@ -6,6 +6,7 @@ use native.Mathlib.Decide.{dec_le}
 use mathlib.Core.Path.{◌≡◌, refl, sym, ap, ◌∙◌}
 use mathlib.Core.Bool.{Bool, true, false, cond}
 use mathlib.Core.List.{List, [], ◌∷◌}
+use Rattle.std.specs.Prelude.{Option}
 use lib.Dec.{eqb}
 use lib.ListN.{length}
 use Rattle.lines.specs.Texts.{before, split, without_empty_last, lines_of}
@@ -52,7 +53,7 @@ long-line a b c h =
         | yes t ↦ no_second b c (record_of a) (name-long c (omega arith))
         | no f ↦ no_first b c (record_of a) (name-long b (omega arith))
       ]
-      | no f ↦ frameless b c ∙ ap (λ (r : Record). with_names r b c) (sym (record-long a (omega arith)))
+      | no f ↦ frameless b c ∙ ap (λ (r : Option Record). with_names r b c) (sym (record-long a (omega arith)))
     ]
 
 long-lines : (ls : List (List ℕ)) → 363 < total ls → unreadable ≡ by_lines ls

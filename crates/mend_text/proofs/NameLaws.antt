@@ -1,6 +1,6 @@
 -- What makes a line a name, and what two lines behind a record ask for. Assumes nothing.
 --     part_slice                               a part of a text, as the code lends it
---     name-empty, name-long, name-is           whether a line is a name
+--     name-empty, -long, -out, name-is         whether a line is a name
 --     names-first, names-second, names-both    whether two lines are different names
 --     named-no, named-yes, frameless            what two lines behind a record ask for
 --     no_first, no_second                      where one of them is no name
@@ -10,7 +10,8 @@ use native.Mathlib.Decide.{dec_le}
 use mathlib.Core.Path.{◌≡◌, refl, sym, ap, ◌∙◌}
 use mathlib.Core.Bool.{Bool, true, false, not, ◌&&◌}
 use mathlib.Core.List.{List, [], ◌∷◌}
-use lib.Dec.{eqb}
+use Rattle.std.specs.Prelude.{Option, None, Some}
+use lib.Dec.{eqb, leb}
 use lib.ListN.{length, take, drop, length-drop}
 use lib.Seq.{slice, take-nil}
 use borrow.Author.Tests.{le-leb, lt-leb, eq-eqb, ne_eqb}
@@ -18,7 +19,7 @@ use Rattle.layout.specs.declared.CubeLayout.{CubeLayout}
 use Rattle.lines.specs.Texts.{split, fields_of, part_length, parts_behind, same_text}
 use Rattle.lines.proofs.SplitLaws.{part_length-le, split-first, parts_behind-end}
 use Rattle.records.specs.declared.Record.{Record}
-use Rattle.records.specs.declared.Record.TheVariants.{Frame, Stall, Cell, Leave, Unreadable}
+use Rattle.records.specs.declared.Record.TheVariants.{Frame, Stall, Cell, Leave}
 use Rattle.mend_text.specs.Requests.{unreadable, mending, is_name, with_names}
 
 pub part_slice : (text : List ℕ) (a b : ℕ) → a ≤ b → take (b - a) (drop a text) ≡ slice a b text
@@ -61,6 +62,14 @@ module _ (line : List ℕ) where
   unfolding is_name
   name-long h = rw (le-leb 1 (length line) (omega arith), lt-leb (length line) 120 h)
 
+  pub name-out : (leb 1 (length line) && leb (length line) 120) ≡ false → is_name line ≡ false
+  unfolding is_name
+  name-out e = go (leb 1 (length line)) (leb (length line) 120) e
+    where
+      go : (a b : Bool) → (a && b) ≡ false → a && b && eqb (length (fields_of line)) 1 ≡ false
+      go true b e = rw e
+      go false b e = refl
+
   pub name-is : (length line ≡ 0 → ⊥) → length line ≤ 120 → eqb (part_length 9 line) (length line) ≡ is_name line
   unfolding is_name
   name-is f h = rw (le-leb 1 (length line) (omega arith), le-leb (length line) 120 h) (sym one_field)
@@ -81,24 +90,24 @@ module _ (first second : List ℕ) where
   pub names-both : is_name first ≡ true → is_name second ≡ true → is_name first && is_name second && not (same_text first second) ≡ not (same_text first second)
   names-both e f = ap (λ (x : Bool). x && is_name second && not (same_text first second)) e ∙ ap (λ (x : Bool). x && not (same_text first second)) f
 
-  pub named-no : (r : Record) → is_name first && is_name second && not (same_text first second) ≡ false → unreadable ≡ with_names r first second
+  pub named-no : (r : Option Record) → is_name first && is_name second && not (same_text first second) ≡ false → unreadable ≡ with_names r first second
   unfolding with_names
-  named-no (Frame q) e = rw e
-  named-no (Stall slot w0 h0 w h id) e = refl
-  named-no (Cell slot c h w id) e = refl
-  named-no (Leave slot id) e = refl
-  named-no Unreadable e = refl
+  named-no (Some (Frame q)) e = rw e
+  named-no (Some (Stall slot w0 h0 w h id)) e = refl
+  named-no (Some (Cell slot c h w id)) e = refl
+  named-no (Some (Leave slot id)) e = refl
+  named-no None e = refl
 
-  pub named-yes : (q : CubeLayout) → is_name first && is_name second && not (same_text first second) ≡ true → mending q first second ≡ with_names (Frame q) first second
+  pub named-yes : (q : CubeLayout) → is_name first && is_name second && not (same_text first second) ≡ true → mending q first second ≡ with_names (Some (Frame q)) first second
   unfolding with_names
   named-yes q e = rw e
 
-  pub frameless : unreadable ≡ with_names Unreadable first second
+  pub frameless : unreadable ≡ with_names None first second
   unfolding with_names
   frameless = refl
 
-  pub no_first : (r : Record) → is_name first ≡ false → unreadable ≡ with_names r first second
+  pub no_first : (r : Option Record) → is_name first ≡ false → unreadable ≡ with_names r first second
   no_first r e = named-no r (names-first e)
 
-  pub no_second : (r : Record) → is_name second ≡ false → unreadable ≡ with_names r first second
+  pub no_second : (r : Option Record) → is_name second ≡ false → unreadable ≡ with_names r first second
   no_second r e = named-no r (names-second e)

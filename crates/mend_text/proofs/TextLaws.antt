@@ -8,7 +8,7 @@ use native.Mathlib.Omega.{arith}
 use mathlib.Core.Path.{◌≡◌, refl, sym, ap, ◌∙◌}
 use mathlib.Core.List.{List, [], ◌∷◌, ◌++◌, flatten, append_assoc, append-nil}
 use lib.ListN.{length, length-append}
-use Rattle.refusal.specs.declared.Answer.TheVariants.{Accepted}
+use Rattle.refusal.specs.Checks.{Accepted}
 use Rattle.layout.specs.declared.CubeLayout.{CubeLayout}
 use Rattle.lines.specs.Digits.{digits}
 use Rattle.lines.specs.Collecting.{empty_line, added, written}

@@ -1,26 +1,27 @@
 // The mending program's input and its text: a frame and two file names; the lines of a report (change request K8).
 #![tactic(auto)]
 
-ghost use Rattle.std.specs.Prelude.{◌+◌, ◌≤◌, min, ◌≡◌, not, ◌&&◌, length, drop};
-ghost use Rattle.std.proofs.Math.Seq.{slice, paste};
+ghost use Rattle.std.specs.Prelude.{◌+◌, ◌≤◌, ◌≡◌, not, ◌&&◌, length, drop};
+ghost use Rattle.std.proofs.Math.Seq.{paste};
 ghost use Rattle.lines.specs.Texts.{part_length, same_text};
 ghost use Rattle.lines.specs.Collecting.{written};
-ghost use Rattle.mend_text.specs.Requests.{is_name, with_names, meant, request_of, Placed};
+ghost use Rattle.mend_text.specs.Requests.{is_name, with_names, meant, request_of};
 ghost use Rattle.mend_text.specs.Reports.{header, dirt_text, number_text, gathered, gather_text};
 
 use layout::CubeLayout;
 use lines::Line;
 use records::Record;
 
-// A frame, and where in the input the two names stand, each by its first byte and the byte after its last; or no input.
-#[derive(Drop)]
-pub enum Input {
-    Names(CubeLayout, usize, usize, usize, usize),
-    Unreadable,
+// What an input asks for: a frame, the name of the file that holds it, and that of the file to write, both as they stand in the input.
+#[derive(Clone, Copy)]
+pub struct Names<'a> {
+    pub layout: CubeLayout,
+    pub first: &'a [u8],
+    pub second: &'a [u8],
 }
 
 // How many lines of a report were gathered, and how many bytes they have.
-#[derive(Drop)]
+#[derive(Clone, Copy)]
 pub struct Gathered {
     pub lines: usize,
     pub bytes: usize,
@@ -32,68 +33,57 @@ fn line_end(text: &[u8], from: usize) -> usize
     requires { from ≤ length text.now }
     ensures { result ≡ from + part_length 10 (drop from text.now) }
 {
-    from + lines_calls::part_length(&text[from..], 10)
+    from + lines_calls::part_length(&text[from..], b'\n')
 }
 
 // Whether a line is a name: one field of at most 120 bytes.
 fn is_name(line: &[u8]) -> bool
     ensures { result ≡ is_name line.now }
 {
-    if line.len() == 0 {
-        return false;
-    }
-    if 120 < line.len() {
-        return false;
-    }
-    lines_calls::part_length(line, 9) == line.len()
+    (1..=120).contains(&line.len()) && lines_calls::part_length(line, b'\t') == line.len()
 }
 
 // Whether two lines are different names.
 fn are_names(first: &[u8], second: &[u8]) -> bool
     ensures { result ≡ is_name first.now && is_name second.now && not (same_text first.now second.now) }
 {
-    if !is_name(first) {
-        return false;
-    }
-    if !is_name(second) {
-        return false;
-    }
-    !lines_calls::same(first, second)
+    is_name(first) && is_name(second) && first != second
 }
 
-// A record and two lines behind it, each by its first byte and the byte after its last.
-fn with_names(item: Record, text: &[u8], a: usize, b: usize, c: usize, d: usize) -> Input
-    requires { (a ≤ b) × (b ≤ length text.now) × (c ≤ d) × (d ≤ length text.now) }
-    ensures asked { meant text.now result ≡ with_names item (slice a b text.now) (slice c d text.now) }
-    ensures placed { Placed text.now result }
+// A record, if the first line is one, and two lines behind it.
+fn with_names<'a>(item: Option<Record>, first: &'a [u8], second: &'a [u8]) -> Option<Names<'a>>
+    ensures { meant result ≡ with_names item first.now second.now }
 {
-    if !are_names(&text[a..b], &text[c..d]) {
-        return Input::Unreadable;
+    if !are_names(first, second) {
+        return None;
     }
-    let Record::Frame(layout) = item else {
-        return Input::Unreadable;
+    let Record::Frame(layout) = item? else {
+        return None;
     };
-    Input::Names(layout, a, b, c, d)
+    Some(Names {
+        layout,
+        first,
+        second,
+    })
 }
 
 // Reads an input: a frame, and two different names.
-pub fn read_input(text: &[u8]) -> Input
-    ensures asked { meant text.now result ≡ request_of text.now }
-    ensures placed { Placed text.now result }
+pub fn read_input(text: &[u8]) -> Option<Names>
+    ensures { meant result ≡ request_of text.now }
 {
     let a = line_end(text, 0);
     if a == text.len() {
-        return Input::Unreadable;
+        return None;
     }
     let b = line_end(text, a + 1);
     if b == text.len() {
-        return Input::Unreadable;
+        return None;
     }
     let c = line_end(text, b + 1);
     if c + 1 < text.len() {
-        return Input::Unreadable;
+        return None;
     }
-    with_names(records::read(&text[..a]), text, a + 1, b, b + 1, c)
+    with_names(records::read(&text[..a]), &text[a + 1..b], &text[b + 1..c])
 }
 
 // ---- the text
@@ -130,23 +120,8 @@ fn put(line: Line, out: &mut [u8], at: usize)
     requires { (line.length ≤ 120) × (at + line.length ≤ length out.old) }
     ensures { out.new ≡ paste out.old at line.bytes line.length }
 {
-    let bytes = line.bytes;
     let n = line.length as usize;
-    let mut i: usize = 0;
-    while i < n {
-        out[at + i] = bytes[i];
-        i += 1;
-    }
-}
-
-// The shorter of two lengths.
-fn shorter(a: usize, b: usize) -> usize
-    ensures { result ≡ min a b }
-{
-    if a < b {
-        return a;
-    }
-    b
+    out[at..at + n].copy_from_slice(&line.bytes[..n]);
 }
 
 // Gathers a report's lines into a buffer, from the first on, as many whole ones as fit: how many, and how many bytes they have. The report is its positions and
@@ -155,10 +130,10 @@ pub fn gather(positions: &[u64], olds: &[u8], out: &mut [u8]) -> Gathered
     ensures counted { result ≡ gathered positions.now olds.now (length out.old) }
     ensures left { out.new ≡ gather_text positions.now olds.now out.old }
 {
-    let count = shorter(positions.len(), olds.len());
-    let mut i: usize = 0;
+    let count = positions.len().min(olds.len());
     let mut at: usize = 0;
-    while i < count {
+    // By index, no zip: the edit `longer_list` takes as many lines as the longer list has.
+    for i in 0..count {
         let line = dirt_text(positions[i], olds[i]);
         let n = line.length as usize;
         if out.len() - at < n {
@@ -169,10 +144,9 @@ pub fn gather(positions: &[u64], olds: &[u8], out: &mut [u8]) -> Gathered
         }
         put(line, out, at);
         at += n;
-        i += 1;
     }
     Gathered {
-        lines: i,
+        lines: count,
         bytes: at,
     }
 }

@@ -1,7 +1,6 @@
--- `mend_text::gather` meets its contract. The loop's invariant: the first i lines, of `at` bytes, are gathered, and those of what is left that fit decide (`Gathering`). The
--- measure is what is left of the shorter list. Assumes nothing.
+-- `mend_text::gather` meets its contract. The loop's invariant: the first i lines, of `at` bytes, are gathered, and those of what is left that fit decide (`Gathering`). Assumes
+-- nothing.
 use Prim.Native.Nat.{ℕ, ◌+◌, ◌<◌}
-use native.Mathlib.Nat.{min-le_left, min-le_right}
 use native.Mathlib.Omega.{arith}
 use mathlib.Core.Path.{◌≡◌, sym, ap, subst}
 use mathlib.Core.List.{List}
@@ -13,9 +12,7 @@ use Rattle.mend_text.proofs.StepLaws.{Gathering, gathering-none, gathering-next,
 use Rattle.mend_text.proofs.gather.Goals as goal
 
 pub loop-i-init : goal.loop-i-init
-loop-i-init c =
-    let a = c.args in
-    (omega arith, c.shorter-count.ensures, gathering-none a.positions.now a.olds.now a.out.now)
+loop-i-init c = let a = c.args in gathering-none a.positions.now a.olds.now a.out.now
 
 pub returns-then-out-at : goal.returns-then-out-at
 returns-then-out-at c =
@@ -23,10 +20,10 @@ returns-then-out-at c =
     let O : List ℕ = c.args.olds.now in
     let B : List ℕ = c.args.out.now in
     let l = c.loop-i in
-    let g = l.invariant.2 in
+    let g = l.invariant in
     -- a line is left
-    let position : l.i < length P = omega (arith, c.loop-i-test.true, l.invariant.1, min-le_left (length P) (length O)) in
-    let old : l.i < length O = omega (arith, c.loop-i-test.true, l.invariant.1, min-le_right (length P) (length O)) in
+    let position : l.i < length P = omega (arith, c.loop-i-test.true, c.min-count.ensures) in
+    let old : l.i < length O = omega (arith, c.loop-i-test.true, c.min-count.ensures) in
     let kept : length l.out ≡ length B = gathering-length P O B l.i l.at l.out g in
     let counted : c.dirt_text-line.result.length ≡ length (dirt_text (line_at P O l.i)) = ap (λ (m : Line). m.length) c.dirt_text-line.ensures in
     let full = gathering-full P O B l.i l.at l.out g position old (omega (arith, c.if-out-at.true, counted, kept)) in
@@ -38,13 +35,13 @@ loop-i-preserved c =
     let O : List ℕ = c.args.olds.now in
     let B : List ℕ = c.args.out.now in
     let l = c.loop-i in
-    let g = l.invariant.2 in
-    let position : l.i < length P = omega (arith, c.loop-i-test.true, l.invariant.1, min-le_left (length P) (length O)) in
-    let old : l.i < length O = omega (arith, c.loop-i-test.true, l.invariant.1, min-le_right (length P) (length O)) in
+    let g = l.invariant in
+    let position : l.i < length P = omega (arith, c.loop-i-test.true, c.min-count.ensures) in
+    let old : l.i < length O = omega (arith, c.loop-i-test.true, c.min-count.ensures) in
     let kept : length l.out ≡ length B = gathering-length P O B l.i l.at l.out g in
     let line = c.dirt_text-line.result in
     let next = gathering-next P O B l.i l.at l.out g line position old c.dirt_text-line.ensures (omega (arith, c.if-out-at.false, g.room, kept)) in
-    (omega (arith, c.loop-i-test.true), l.invariant.1, subst (Gathering P O B (l.i + 1) (l.at + line.length)) (sym c.put.ensures) next)
+    subst (Gathering P O B (l.i + 1) (l.at + line.length)) (sym c.put.ensures) next
 
 pub returns : goal.returns
 returns c =
@@ -52,6 +49,8 @@ returns c =
     let O : List ℕ = c.args.olds.now in
     let B : List ℕ = c.args.out.now in
     let l = c.loop-i in
-    let g = l.invariant.2 in
-    let end = gathering-end P O B l.i l.at l.out g (omega (arith, c.loop-i-test.false, l.invariant.1)) in
-    record { counted = gathering-count P O B l.i l.at l.out g end; left = gathering-text P O B l.i l.at l.out g end }
+    let n = c.min-count.result in
+    let at : l.i ≡ n = omega (arith, c.loop-i-test.false, l.auto.i-end) in
+    let g : Gathering P O B n l.at l.out = subst (λ (i : ℕ). Gathering P O B i l.at l.out) at l.invariant in
+    let end = gathering-end P O B n l.at l.out g (omega (arith, c.min-count.ensures)) in
+    record { counted = gathering-count P O B n l.at l.out g end; left = gathering-text P O B n l.at l.out g end }
