@@ -14,6 +14,7 @@ ghost use Rattle.refusal.specs.Codes.{answer_of};
 ghost use Rattle.weights.specs.Rules.{setting_checks, weight_checks, element_checks};
 ghost use Rattle.weights.specs.Calls.{pack_answer, pack_buffer, unpack_answer, unpack_elements, count_quantity, extent_quantity, position_quantity};
 
+use element::Index;
 use measure::Tensor;
 use refusal::{Answer, Fault, Quantity, Refusal};
 use weights::WeightLayout;
@@ -88,18 +89,12 @@ pub fn extent(layout: WeightLayout) -> Quantity
 }
 
 // Checks 1, 2, 9 of an element.
-fn check_element(
-    layout: WeightLayout,
-    kernel: u32,
-    channel: u32,
-    row: u32,
-    column: u32,
-) -> Result<Tensor, Fault>
-    ensures answered { answer_of result ≡ in_order (element_checks layout kernel channel row column) }
+fn check_element(layout: WeightLayout, index: Index) -> Result<Tensor, Fault>
+    ensures answered { answer_of result ≡ in_order (element_checks layout index.kernel index.channel index.row index.column) }
     ensures same { IfOk result (λ t. t.layout ≡ layout) }
 {
     let tensor = check_setting(layout)?;
-    if !rules::element_inside(layout, kernel, channel, row, column) {
+    if !rules::element_inside(layout, index) {
         return Err(Fault(Refusal::Bounds, 0));
     }
     Ok(tensor)
@@ -109,6 +104,12 @@ fn check_element(
 pub fn position(layout: WeightLayout, kernel: u32, channel: u32, row: u32, column: u32) -> Quantity
     ensures { result ≡ position_quantity layout kernel channel row column }
 {
-    let tensor = check_element(layout, kernel, channel, row, column)?;
-    Ok(element::position_of(tensor, kernel, channel, row, column))
+    let index = Index {
+        kernel,
+        channel,
+        row,
+        column,
+    };
+    let tensor = check_element(layout, index)?;
+    Ok(element::position_of(tensor, index))
 }

@@ -2,6 +2,7 @@
 ghost use Rattle.std.specs.Prelude.{◌≡◌};
 ghost use Rattle.weights.specs.Rules.{sizes_valid, element_inside};
 
+use crate::element::Index;
 use weights::WeightLayout;
 
 // Kernels, channels, rows and columns.
@@ -15,17 +16,11 @@ pub(crate) fn sizes_valid(layout: WeightLayout) -> bool
 }
 
 // Whether the tensor has an element.
-pub(crate) fn element_inside(
-    layout: WeightLayout,
-    kernel: u32,
-    channel: u32,
-    row: u32,
-    column: u32,
-) -> bool
-    ensures { result ≡ element_inside layout kernel channel row column }
+pub(crate) fn element_inside(layout: WeightLayout, index: Index) -> bool
+    ensures { result ≡ element_inside layout index.kernel index.channel index.row index.column }
 {
-    (kernel < layout.kernels)
-        & (channel < layout.channels)
-        & (row < layout.rows)
-        & (column < layout.columns)
+    (index.kernel < layout.kernels)
+        & (index.channel < layout.channels)
+        & (index.row < layout.rows)
+        & (index.column < layout.columns)
 }

@@ -9,14 +9,14 @@ pub returns-in_err-tensor-clause-answered : goal.returns-in_err-tensor-clause-an
 returns-in_err-tensor-clause-answered c =
     let a = c.args in
     ap answer_of (handed-on c.from_residual.result c.from_residual.ensures.1)
-    ∙ sym (element-setting a.layout a.kernel a.channel a.row a.column (sym c.in_err-tensor.ensures.answered))
+    ∙ sym (element-setting a.layout a.index.kernel a.index.channel a.index.row a.index.column (sym c.in_err-tensor.ensures.answered))
 
 pub returns-then-not-element_inside-clause-answered : goal.returns-then-not-element_inside-clause-answered
 returns-then-not-element_inside-clause-answered c =
     let a = c.args in
-    element-outside a.layout a.kernel a.channel a.row a.column (sym c.in_ok-tensor.ensures.answered) (sym c.element_inside.ensures ∙ c.if-not-element_inside.true)
+    element-outside a.layout a.index.kernel a.index.channel a.index.row a.index.column (sym c.in_ok-tensor.ensures.answered) (sym c.element_inside.ensures ∙ c.if-not-element_inside.true)
 
 pub returns-clause-answered : goal.returns-clause-answered
 returns-clause-answered c =
     let a = c.args in
-    element-valid a.layout a.kernel a.channel a.row a.column (sym c.in_ok-tensor.ensures.answered) (sym c.element_inside.ensures ∙ c.if-not-element_inside.false)
+    element-valid a.layout a.index.kernel a.index.channel a.index.row a.index.column (sym c.in_ok-tensor.ensures.answered) (sym c.element_inside.ensures ∙ c.if-not-element_inside.false)

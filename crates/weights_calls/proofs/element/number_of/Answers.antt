@@ -121,4 +121,4 @@ overflow_add-result c =
 pub returns : goal.returns
 returns c =
     let a = c.args in
-    joined a.tensor.layout a.kernel a.channel a.row a.column c.group_size-group.result c.group_kernels-kernels.result c.min-channels.result c.group_size-group.ensures c.group_kernels-kernels.ensures c.min-channels.ensures
+    joined a.tensor.layout a.index.kernel a.index.channel a.index.row a.index.column c.group_size-group.result c.group_kernels-kernels.result c.min-channels.result c.group_size-group.ensures c.group_kernels-kernels.ensures c.min-channels.ensures

@@ -16,10 +16,10 @@ product q k c r s n e = ap₂ (λ (n e : ℕ). n * e) n e
 pub overflow_mul-result : goal.overflow_mul-result
 overflow_mul-result c =
     let a = c.args in
-    let p = product a.tensor.layout a.kernel a.channel a.row a.column c.number_of.ensures c.element_bytes.ensures in
-    omega (arith, p, position_lt a.tensor.layout (valid a.tensor.layout c.args.tensor.sizes) a.kernel a.channel a.row a.column c.requires)
+    let p = product a.tensor.layout a.index.kernel a.index.channel a.index.row a.index.column c.number_of.ensures c.element_bytes.ensures in
+    omega (arith, p, position_lt a.tensor.layout (valid a.tensor.layout c.args.tensor.sizes) a.index.kernel a.index.channel a.index.row a.index.column c.requires)
 
 pub returns : goal.returns
 returns c =
     let a = c.args in
-    product a.tensor.layout a.kernel a.channel a.row a.column c.number_of.ensures c.element_bytes.ensures
+    product a.tensor.layout a.index.kernel a.index.channel a.index.row a.index.column c.number_of.ensures c.element_bytes.ensures
