@@ -10,9 +10,8 @@ use mathlib.Core.List.{List}
 use lib.ListN.{length}
 use lib.IntN.{ℤ}
 use lib.Signed.{mag}
-use Rattle.refusal.specs.declared.Answer.{Answer}
-use Rattle.refusal.specs.declared.Answer.TheVariants.{Accepted, Refused}
-use Rattle.refusal.specs.Checks.{in_order, leaves}
+use Rattle.std.specs.Prelude.{Ok, Err}
+use Rattle.refusal.specs.Checks.{in_order, leaves, Answer}
 use Rattle.layout.specs.declared.CubeLayout.{CubeLayout}
 use Rattle.layout.specs.declared.ElementBox.{ElementBox}
 use Rattle.layout.specs.Geometry.{element_count}
@@ -94,10 +93,10 @@ module _ (q : CubeLayout) (before : List ℕ) where
     read-cases : (n id : ℕ) (b : ElementBox) (xs : List ℤ) (v : Answer) → in_order (read_checks (theirs n id) b (length xs) (length before)) ≡ v
         → leaves v (box_elements q (region_box (theirs n id) b) (packed q m.raw before)) xs ≡ leaves v (box_read q (region_box (theirs n id) b) m.raw) xs
     unfolding leaves
-    read-cases n id b xs Accepted e =
+    read-cases n id b xs (Ok _) e =
         let d = (read-accepted (theirs n id) b (length xs) (length before) e).admitted in
         packed-box_read q d.layout (region_box (theirs n id) b) d.inside m.raw before a.count a.fits d.room
-    read-cases n id b xs (Refused r i) e = refl
+    read-cases n id b xs (Err fault) e = refl
 
     pub same-elements : (c : Call) → (step s c).elements ≡ (plain_step q (length before) m c).elements
     unfolding step plain_step plain_answer read_elements
@@ -117,7 +116,7 @@ module _ (q : CubeLayout) (before : List ℕ) where
       write-agrees : {t : RegionTable} {slots : List Slot} {buf : List ℕ} (v : Answer) → AsEdit (theirs n id) b xs (length before) v → t.layout ≡ q → slots_of t ≡ slots
           → buf ≡ written (theirs n id) b xs (packed q m.raw before) v → Agrees (state_of t buf) (record { raw = left v; slots = slots })
       unfolding leaves
-      write-agrees Accepted e same_layout same-slots same-buffer =
+      write-agrees (Ok _) e same_layout same-slots same-buffer =
           let box = region_box (theirs n id) b in
           let v = edit-accepted (theirs n id) b xs (length before) (e refl) in
           let d = v.reads.admitted in
@@ -128,7 +127,7 @@ module _ (q : CubeLayout) (before : List ℕ) where
             fits = box_written-fits q box xs m.raw d.count (checked-fits q xs sixteen v.values) a.fits;
             bytes = same-buffer ∙ sym (packed-boxWritten q box xs m.raw a.count d.layout before);
           }
-      write-agrees (Refused r i) e same_layout same-slots same-buffer =
+      write-agrees (Err fault) e same_layout same-slots same-buffer =
           record { layout = same_layout; slots = same-slots; count = a.count; fits = a.fits; bytes = same-buffer }
 
     pub agrees_after : (c : Call) → SixteenBit (lends c) → Agrees (step s c).state (plain_step q (length before) m c).state

@@ -13,9 +13,8 @@ use mathlib.Core.List.{List, [], ◌∷◌}
 use lib.ListN.{length, get_or, set, replicate, get_or-replicate, length-replicate, get_or-eq_default}
 use lib.IntN.{ℤ}
 use lib.Seq.{get_or-set_same, get_or-set_other, set_out}
-use Rattle.refusal.specs.declared.Answer.{Answer}
-use Rattle.refusal.specs.declared.Answer.TheVariants.{Accepted, Refused}
-use Rattle.refusal.specs.Checks.{in_order, leaves}
+use Rattle.std.specs.Prelude.{Ok, Err}
+use Rattle.refusal.specs.Checks.{in_order, leaves, Answer}
 use Rattle.layout.specs.declared.CubeLayout.{CubeLayout}
 use Rattle.layout.specs.Geometry.{size_of, element_position}
 use Rattle.layout.proofs.Valid.{Valid}
@@ -95,8 +94,8 @@ module _ (t : RegionTable) (n id : ℕ) (a : Apart t.layout (slots_of t)) where
   module _ (g : Rectangle) where
     place-cases : (v : Answer) → in_order (place_checks (access_of t n id) g) ≡ v → Apart t.layout (leaves v (set (slots_of t) n (filled id g)) (slots_of t))
     unfolding leaves
-    place-cases Accepted e = apart-placed t.layout (slots_of t) n id g (place-accepted (access_of t n id) g e) a
-    place-cases (Refused r i) e = a
+    place-cases (Ok _) e = apart-placed t.layout (slots_of t) n id g (place-accepted (access_of t n id) g e) a
+    place-cases (Err fault) e = a
 
     apart-place : Apart (place_table t n id g).layout (slots_of (place_table t n id g))
     unfolding place_answer
@@ -106,8 +105,8 @@ module _ (t : RegionTable) (n id : ℕ) (a : Apart t.layout (slots_of t)) where
 
   release-cases : (v : Answer) → Apart t.layout (leaves v (set (slots_of t) n empty) (slots_of t))
   unfolding leaves
-  release-cases Accepted = apart-released t.layout (slots_of t) n a
-  release-cases (Refused r i) = a
+  release-cases (Ok _) = apart-released t.layout (slots_of t) n a
+  release-cases (Err fault) = a
 
   apart-release : (len : ℕ) → Apart (release_table t n id len).layout (slots_of (release_table t n id len))
   apart-release len =

@@ -10,9 +10,8 @@ use mathlib.Core.Bool.{true}
 use mathlib.Core.List.{List}
 use lib.ListN.{length, get_or}
 use lib.IntN.{ℤ}
-use Rattle.refusal.specs.declared.Answer.{Answer}
-use Rattle.refusal.specs.declared.Answer.TheVariants.{Accepted, Refused}
-use Rattle.refusal.specs.Checks.{in_order, leaves}
+use Rattle.std.specs.Prelude.{Ok, Err}
+use Rattle.refusal.specs.Checks.{in_order, leaves, Answer, Accepted}
 use Rattle.layout.specs.declared.CubeLayout.{CubeLayout}
 use Rattle.layout.specs.declared.ElementBox.{ElementBox}
 use Rattle.layout.specs.Geometry.{size_of, element_position}
@@ -44,8 +43,8 @@ module _ (a : Access) (b : ElementBox) (xs : List ℤ) where
     pub written-names : (v : Answer) → AsEdit (length buf) v → (p : ℕ)
         → ((c h w k : ℕ) → InBox (region_box a b) c h w → k < size_of a.layout → p ≡ element_position a.layout c h w + k → ⊥) → get_or (written buf v) p 0 ≡ get_or buf p 0
     unfolding leaves
-    written-names Accepted e p f = edited-kept a.layout (region_box a b) xs buf (edit-accepted a b xs (length buf) (e refl)).reads.admitted.layout p f
-    written-names (Refused r i) e p f = refl
+    written-names (Ok _) e p f = edited-kept a.layout (region_box a b) xs buf (edit-accepted a b xs (length buf) (e refl)).reads.admitted.layout p f
+    written-names (Err fault) e p f = refl
 
     -- in the words of the claims
     written-changes : (q : CubeLayout) → a.layout ≡ q → (v : Answer) → AsEdit (length buf) v → (p : ℕ)
@@ -57,8 +56,8 @@ module _ (a : Access) (b : ElementBox) (xs : List ℤ) where
 
     written-length : (v : Answer) → length (written buf v) ≡ length buf
     unfolding leaves
-    written-length Accepted = edited-length a.layout (region_box a b) xs buf
-    written-length (Refused r i) = refl
+    written-length (Ok _) = edited-length a.layout (region_box a b) xs buf
+    written-length (Err fault) = refl
 
 -- a release writes zeros to the whole region
 pub release-as : (a : Access) (len : ℕ) → AsEdit a (whole_region a) (zeros_of (whole_region a)) len (in_order (release_checks a len))

@@ -5,11 +5,10 @@ use mathlib.Core.Path.{◌≡◌, refl}
 use mathlib.Core.List.{List, [], ◌∷◌, map}
 use lib.ListN.{length, get_or, set}
 use lib.IntN.{ℤ, pos, negsuc}
-use Rattle.refusal.specs.declared.Answer.TheVariants.{Accepted, Refused}
 use Rattle.refusal.specs.declared.Refusal.TheVariants.{Fp16Nan}
 use Rattle.refusal.specs.Codes.{answer_code, fault_index}
 use Rattle.refusal.specs.Sizes.{size_valid}
-use Rattle.refusal.specs.Checks.{require_at, in_order, leaves}
+use Rattle.refusal.specs.Checks.{require_at, in_order, leaves, Accepted, Refused}
 use Rattle.elements.specs.Bytes.{element_bytes, byte_of, word_at, signed, element_at}
 use Rattle.elements.specs.Lists.{remade_from, remade, tabulate_from, tabulate}
 use Rattle.elements.specs.Values.{is_nan, value_check, value_checks_from, value_checks}

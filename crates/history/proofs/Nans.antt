@@ -9,7 +9,7 @@ use mathlib.Core.Bool.{Bool, true, false, not}
 use mathlib.Core.List.{List}
 use lib.ListN.{length, get_or, get_or-eq_default}
 use lib.IntN.{ℤ, pos}
-use Rattle.refusal.specs.declared.Answer.TheVariants.{Accepted}
+use Rattle.refusal.specs.Checks.{Accepted}
 use Rattle.refusal.proofs.CheckLaws.{leaves-done}
 use Rattle.elements.specs.Bytes.{byte_of}
 use Rattle.elements.specs.Values.{is_nan, value_valid}

@@ -8,9 +8,8 @@ use mathlib.Core.Logic.{◌≢◌}
 use mathlib.Core.List.{List}
 use lib.ListN.{length, get_or}
 use lib.IntN.{ℤ}
-use Rattle.refusal.specs.declared.Answer.{Answer}
-use Rattle.refusal.specs.declared.Answer.TheVariants.{Accepted, Refused}
-use Rattle.refusal.specs.Checks.{leaves}
+use Rattle.std.specs.Prelude.{Ok, Err}
+use Rattle.refusal.specs.Checks.{leaves, Answer, Accepted}
 use Rattle.refusal.proofs.CheckLaws.{leaves-before}
 use Rattle.layout.specs.declared.CubeLayout.{CubeLayout}
 use Rattle.layout.specs.declared.ElementBox.{ElementBox}
@@ -63,7 +62,7 @@ module _ (s : State) (a : Apart s.table.layout (slots_of s.table)) (m id' : ℕ)
       → (c h w k : ℕ) → InBox (region_box (access_of t m id') b') c h w → k < size_of q
       → get_or (written (access_of t n id) b xs s.buffer v) (element_position q c h w + k) 0 ≡ get_or s.buffer (element_position q c h w + k) 0
   unfolding leaves read_answer
-  written_keeps r n id d b xs Accepted e c h w k i hk =
+  written_keeps r n id d b xs (Ok _) e c h w k i hk =
       let slots = slots_of t in
       let mine = (read-accepted (access_of t m id') b' (length ys) (length s.buffer) r).region in
       let theirs = (edit-accepted (access_of t n id) b xs (length s.buffer) (e refl)).reads.region in
@@ -77,7 +76,7 @@ module _ (s : State) (a : Apart s.table.layout (slots_of s.table)) (m id' : ℕ)
       (in-has (rectangle_at slots n) w' h' (in-rectangle q (rectangle_at slots n) b theirs.bounds c' h' w' i'))
       hk'
       same)
-  written_keeps r n id d b xs (Refused x j) e c h w k i hk = refl
+  written_keeps r n id d b xs (Err fault) e c h w k i hk = refl
 
   -- and so over any call through another slot
   call-keeps : accepted → (call : Call) → slot_of_call call ≢ m → (c h w k : ℕ) → InBox (region_box (access_of t m id') b') c h w → k < size_of q
@@ -117,8 +116,8 @@ module _ (s : State) (a : Apart s.table.layout (slots_of s.table)) (m id' : ℕ)
     elements-kept = go (read_answer t m id' b' (length ys) (length s.buffer)) refl
       where
         go : (v : Answer) → read_answer t m id' b' (length ys) (length s.buffer) ≡ v → read_elements after.table m id' b' after.buffer ys ≡ read_elements t m id' b' s.buffer ys
-        go Accepted r = sym (same-elements m b' t after.table id' id' s.buffer after.buffer ys ys (same_read r) r)
-        go (Refused x i) r = leaves-before _ ys (answer-kept ∙ r) ∙ sym (leaves-before _ ys r)
+        go (Ok _) r = sym (same-elements m b' t after.table id' id' s.buffer after.buffer ys ys (same_read r) r)
+        go (Err fault) r = leaves-before _ ys (answer-kept ∙ r) ∙ sym (leaves-before _ ys r)
 
 pub read-undisturbed : (q : CubeLayout) (s : State) → s.table.layout ≡ q → Apart q (slots_of s.table) → (call : Call) (m id : ℕ) → slot_of_call call ≢ m → (b : ElementBox) (ys : List ℤ)
     → ((step (step s call).state (read m id b ys)).reply ≡ (step s (read m id b ys)).reply) × ((step (step s call).state (read m id b ys)).elements ≡ (step s (read m id b ys)).elements)

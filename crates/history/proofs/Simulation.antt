@@ -9,8 +9,7 @@ use mathlib.Core.Path.{◌≡◌, refl, sym, ap, ◌∙◌}
 use mathlib.Core.List.{List, [], ◌∷◌, map}
 use lib.ListN.{length}
 use lib.IntN.{ℤ}
-use Rattle.refusal.specs.declared.Answer.TheVariants.{Accepted}
-use Rattle.refusal.specs.Checks.{in_order}
+use Rattle.refusal.specs.Checks.{in_order, Accepted}
 use Rattle.refusal.proofs.CheckLaws.{in_order-front, in_order-passed, leaves-done}
 use Rattle.elements.specs.Values.{value_checks}
 use Rattle.elements.proofs.ValueLaws.{value_checks-all}

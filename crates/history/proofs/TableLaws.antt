@@ -8,9 +8,8 @@ use mathlib.Core.Logic.{◌≢◌}
 use mathlib.Core.List.{List, [], ◌∷◌, map}
 use lib.ListN.{length, set}
 use lib.Seq.{get_or-set_other}
-use Rattle.refusal.specs.declared.Answer.{Answer}
-use Rattle.refusal.specs.declared.Answer.TheVariants.{Accepted, Refused}
-use Rattle.refusal.specs.Checks.{leaves}
+use Rattle.std.specs.Prelude.{Ok, Err}
+use Rattle.refusal.specs.Checks.{leaves, Answer}
 use Rattle.refusal.proofs.CheckLaws.{leaves-ap, leaves-same}
 use Rattle.regions.specs.declared.Rectangle.{Rectangle}
 use Rattle.regions.specs.declared.Region.{Region}
@@ -60,8 +59,8 @@ module _ (t : RegionTable) (n id : ℕ) where
 -- every slot but the one that is named stays
 slot-other : (slots : List Slot) (n m : ℕ) → n ≢ m → (new : Slot) (v : Answer) → slot_at (leaves v (set slots n new) slots) m ≡ slot_at slots m
 unfolding leaves slot_at
-slot-other slots n m d new Accepted = get_or-set_other slots n m new empty (λ e. d (sym e))
-slot-other slots n m d new (Refused r i) = refl
+slot-other slots n m d new (Ok _) = get_or-set_other slots n m new empty (λ e. d (sym e))
+slot-other slots n m d new (Err fault) = refl
 
 pub slot-after : (s : State) (c : Call) (m : ℕ) → slot_of_call c ≢ m → slot_at (slots_of (step s c).state.table) m ≡ slot_at (slots_of s.table) m
 unfolding step slot_of_call

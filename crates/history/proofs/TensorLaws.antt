@@ -13,8 +13,7 @@ use lib.ListN.{length, get_or, replicate}
 use lib.Seq.{ext_get_or}
 use lib.IntN.{ℤ, pos}
 use lib.Signed.{mag}
-use Rattle.refusal.specs.declared.Answer.TheVariants.{Accepted}
-use Rattle.refusal.specs.Checks.{in_order}
+use Rattle.refusal.specs.Checks.{in_order, Accepted}
 use Rattle.elements.specs.Bytes.{byte_of}
 use Rattle.elements.specs.Values.{SixteenBit, value_valid, value_checks}
 use Rattle.elements.proofs.ListLaws.{length-remade, get_or-remade}

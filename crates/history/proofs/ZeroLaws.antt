@@ -12,8 +12,8 @@ use mathlib.Core.Bool.{Bool, true, false}
 use mathlib.Core.List.{List}
 use lib.ListN.{length, get_or}
 use lib.IntN.{ℤ, pos}
-use Rattle.refusal.specs.declared.Answer.{Answer}
-use Rattle.refusal.specs.declared.Answer.TheVariants.{Accepted, Refused}
+use Rattle.std.specs.Prelude.{Ok, Err}
+use Rattle.refusal.specs.Checks.{Answer, Accepted}
 use Rattle.refusal.proofs.CheckLaws.{leaves-done, leaves-before}
 use Rattle.elements.specs.Bytes.{byte_of}
 use Rattle.elements.proofs.ByteLaws.{element_bytes-cases, element_at-byte_of}
@@ -104,8 +104,8 @@ module _ (a : Access) (b : ElementBox) (xs : List ℤ) (buf : List ℕ) (v : Ans
       by-box ok false has = λ k hk. element-kept cube ok has k hk ∙ z k hk
 
       by_answer : (x : Answer) → v ≡ x → Zeroed q after c h w
-      by_answer Accepted ok = by-box ok (box_has box c h w) refl
-      by_answer (Refused r i) e = λ k hk. ap (λ (l : List ℕ). get_or l (element_position q c h w + k) 0) (leaves-before _ buf e) ∙ z k hk
+      by_answer (Ok _) ok = by-box ok (box_has box c h w) refl
+      by_answer (Err fault) e = λ k hk. ap (λ (l : List ℕ). get_or l (element_position q c h w + k) 0) (leaves-before _ buf e) ∙ z k hk
 
   -- it does not write the element
   pub zero-unwritten : InCube q c h w → Zeroed q buf c h w → (v ≡ Accepted → box_has box c h w ≡ false) → Zeroed q after c h w

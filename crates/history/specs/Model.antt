@@ -2,8 +2,7 @@
 -- is given the packed tensor, the layout and the buffer's length, and then each call's own arguments. A filled slot holds its owner's id beside the
 -- rectangle. Assumes nothing.
 use Rattle.std.specs.Prelude.{ℕ, cond, List, [], ◌∷◌, length, get_or, set, ℤ, pos}
-use Rattle.refusal.specs.declared.Answer.{Answer}
-use Rattle.refusal.specs.Checks.{in_order, leaves}
+use Rattle.refusal.specs.Checks.{in_order, leaves, Answer}
 use Rattle.elements.specs.Lists.{remade}
 use Rattle.layout.specs.declared.CubeLayout.{CubeLayout}
 use Rattle.layout.specs.declared.ElementBox.{ElementBox}

@@ -2,10 +2,8 @@
 -- fold goes from one to the next (scope paper, "The plain picture"; change requests K1, K3, K5). Assumes nothing.
 use Rattle.std.specs.Prelude.{ℕ, List, [], ◌∷◌, length, ℤ}
 pub use Rattle.elements.specs.Values.{SixteenBit}
-use Rattle.refusal.specs.declared.Answer.{Answer}
-use Rattle.refusal.specs.declared.Quantity.{Quantity}
-use Rattle.refusal.specs.Codes.{quantity_answer, quantity_value}
-use Rattle.refusal.specs.Checks.{leaves}
+use Rattle.refusal.specs.Codes.{answer_of, quantity_value}
+use Rattle.refusal.specs.Checks.{leaves, Answer, Quantity}
 use Rattle.layout.specs.declared.CubeLayout.{CubeLayout}
 use Rattle.layout.specs.declared.ElementBox.{ElementBox}
 use Rattle.layout.specs.Calls.{pack_answer, pack_buffer}
@@ -55,7 +53,7 @@ reply_of answer value = record { answer = answer; value = leaves answer value no
 
 -- that of a painting, as its call gives it
 abbrev pub held_reply : Quantity → Reply
-held_reply quantity = reply_of (quantity_answer quantity) (held (quantity_value quantity))
+held_reply quantity = reply_of (answer_of quantity) (held (quantity_value quantity))
 
 -- what the program keeps between calls
 pub record State : Type 0 where

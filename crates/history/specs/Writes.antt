@@ -1,7 +1,7 @@
 -- Which slot a call names, which elements it writes, and what is read of an element: the words of the claims about lists of calls (proofs/Claims.antt).
 -- Assumes nothing.
 use Rattle.std.specs.Prelude.{ℕ, ◌≡◌, Bool, true, false, List, [], ◌∷◌, get_or, ℤ, pos}
-use Rattle.refusal.specs.declared.Answer.TheVariants.{Accepted}
+use Rattle.refusal.specs.Checks.{Accepted}
 use Rattle.layout.specs.declared.ElementBox.{ElementBox}
 use Rattle.layout.specs.Boxes.{box_has, box_index}
 use Rattle.regions.specs.declared.RegionTable.{RegionTable}

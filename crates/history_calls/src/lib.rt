@@ -17,10 +17,7 @@ pub fn begin(layout: CubeLayout, elements: &[i16], buffer: &mut [u8]) -> Outcome
 {
     let answer = cube::pack(layout, elements, buffer);
     let table = regions_calls::empty(layout);
-    Outcome {
-        answer: answer,
-        table: table,
-    }
+    Outcome { answer, table }
 }
 
 // Places a region.
