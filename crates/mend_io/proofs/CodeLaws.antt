@@ -12,10 +12,9 @@ use mathlib.Core.List.{List, [], ◌∷◌}
 use lib.Dec.{leb, ltb}
 use borrow.Author.Tests.{leb-false}
 use Rattle.refusal.specs.declared.Refusal.TheVariants.{Size, Precision, CubeStrides, CubeStart, BufferLength}
-use Rattle.refusal.specs.declared.Answer.{Answer}
-use Rattle.refusal.specs.declared.Answer.TheVariants.{Accepted, Refused}
 use Rattle.refusal.specs.Codes.{answer_code}
-use Rattle.refusal.specs.Checks.{require_at, require, in_order}
+use Rattle.std.specs.Prelude.{Ok, Err}
+use Rattle.refusal.specs.Checks.{require_at, require, in_order, Answer, Accepted}
 use Rattle.layout.specs.declared.CubeLayout.{CubeLayout}
 use Rattle.layout.specs.Geometry.{cube_extent}
 use Rattle.layout.specs.Rules.{sizes_valid, whole_atoms, strides_valid, layout_checks}
@@ -68,23 +67,23 @@ ends-unreadable-24 e a = a.code
 module _ (q : CubeLayout) (e : Ended) where
   checked-code : (a : Answer) → Checked a q e → (e.code ≡ 24) ⊎ (e.code ≡ answer_code a)
   unfolding Checked
-  checked-code (Refused r i) c = inr c.code
-  checked-code Accepted (inl w) = inr w.code
-  checked-code Accepted (inr b) = inl b.code
+  checked-code (Err f) c = inr c.code
+  checked-code (Ok _) (inl w) = inr w.code
+  checked-code (Ok _) (inr b) = inl b.code
 
   checked-whole : (a : Answer) → frame_answer q e.length ≡ a → Checked a q e → e.code ≡ 0 → Whole q e
   unfolding Checked
-  checked-whole (Refused r i) same c z =
+  checked-whole (Err f) same c z =
       let taken : frame_answer q e.length ≡ Accepted = frame-0 q e.length (ap answer_code same ∙ sym c.code ∙ z) in
       absurd (let no_more : ◌≡◌ {A = ℕ} 0 1 = cc in omega arith)
-  checked-whole Accepted same (inl w) z = w
-  checked-whole Accepted same (inr b) z = absurd (omega (arith, b.code))
+  checked-whole (Ok _) same (inl w) z = w
+  checked-whole (Ok _) same (inr b) z = absurd (omega (arith, b.code))
 
   checked-short : (a : Answer) → frame_answer q e.length ≡ a → Checked a q e → e.code ≡ 5 → e.length < q.start + cube_extent q
   unfolding Checked
-  checked-short (Refused r i) same c z = frame-5 q e.length (ap answer_code same ∙ sym c.code ∙ z)
-  checked-short Accepted same (inl w) z = absurd (omega (arith, w.code))
-  checked-short Accepted same (inr b) z = absurd (omega (arith, b.code))
+  checked-short (Err f) same c z = frame-5 q e.length (ap answer_code same ∙ sym c.code ∙ z)
+  checked-short (Ok _) same (inl w) z = absurd (omega (arith, w.code))
+  checked-short (Ok _) same (inr b) z = absurd (omega (arith, b.code))
 
   module _ (first second : List ℕ) where
     pub ends-code : Ends (mending q first second) e → (e.code ≡ 24) ⊎ (e.code ≡ answer_code (frame_answer q e.length))

@@ -3,19 +3,17 @@
 --     frame_answer                                     the frame's checks over a length
 --     mends-failed, mends-refused, mends-written      a run whose input was readable
 --     alone-end, ends-unreadable, ends-mending        a run, by its input
---     names-placed                                    where its names stand
 --     room-checks                                     the box check of the whole cube never refuses
-use Prim.Native.Nat.{ℕ, ◌≤◌}
+use Prim.Native.Nat.{ℕ}
 use mathlib.Core.Path.{◌≡◌, refl, sym, ap, subst, ◌∙◌}
 use mathlib.Core.Bool.{true}
 use mathlib.Core.Logic.{◌⊎◌, inl, inr}
 use mathlib.Core.List.{List, ◌++◌}
-use lib.ListN.{length, take}
-use Rattle.refusal.specs.declared.Refusal.{Refusal}
-use Rattle.refusal.specs.declared.Answer.{Answer}
-use Rattle.refusal.specs.declared.Answer.TheVariants.{Accepted, Refused}
+use lib.ListN.{take}
+use Rattle.std.specs.Prelude.{Option, None, Some, Ok, Err}
+use Rattle.refusal.specs.declared.Fault.{Fault}
 use Rattle.refusal.specs.Codes.{code_of}
-use Rattle.refusal.specs.Checks.{in_order}
+use Rattle.refusal.specs.Checks.{in_order, Answer, Accepted}
 use Rattle.refusal.proofs.CheckLaws.{in_order-same}
 use Rattle.layout.specs.declared.CubeLayout.{CubeLayout}
 use Rattle.layout.specs.Boxes.{whole_box}
@@ -27,9 +25,8 @@ use Rattle.layout.proofs.CallLaws.{box-accepted, box-refused}
 use Rattle.lines.specs.Sums.{checksum}
 use Rattle.lines.proofs.SumLaws.{checksum-append}
 use Rattle.padding.specs.Mending.{Dirt, reported}
-use Rattle.mend_text.specs.declared.Input.{Input}
-use Rattle.mend_text.specs.declared.Input.TheVariants.{Names, Unreadable}
-use Rattle.mend_text.specs.Requests.{Request, meant, request_of, Placed}
+use Rattle.mend_text.specs.declared.Names.{Names}
+use Rattle.mend_text.specs.Requests.{Request, meant, request_of}
 use Rattle.mend_text.specs.Reports.{header, report_text, number_text, output}
 use Rattle.mend_io.specs.declared.Ended.{Ended}
 use Rattle.mend_io.specs.declared.Printed.{Printed}
@@ -68,10 +65,10 @@ abbrev pub frame_answer : CubeLayout → ℕ → Answer
 frame_answer q n = in_order (layout_checks q ++ room_checks q n)
 
 module _ (q : CubeLayout) (len : ℕ) {e : Ended} where
-  pub mends-refused : {r : Refusal} {i : ℕ} → frame_answer q len ≡ Refused r i → e ≡ number_end 0 (code_of r) len → Mends q e
+  pub mends-refused : {f : Fault} → frame_answer q len ≡ Err f → e ≡ number_end 0 (code_of f.0) len → Mends q e
   unfolding Checked
-  mends-refused {r} {i} a same =
-      let here : frame_answer q e.length ≡ Refused r i = ap (λ (x : Ended). frame_answer q x.length) same ∙ a in
+  mends-refused {f} a same =
+      let here : frame_answer q e.length ≡ Err f = ap (λ (x : Ended). frame_answer q x.length) same ∙ a in
       inr (subst (λ (x : Answer). Checked x q e) (sym here) (alone-end same))
 
   accepted : frame_answer q e.length ≡ Accepted → Alone 24 e ⊎ (Whole q e ⊎ BrokenOff q e) → Mends q e
@@ -84,25 +81,20 @@ module _ (q : CubeLayout) (len : ℕ) {e : Ended} where
 
 -- ---- by the input
 
-module _ (text : List ℕ) {i : Input} {e : Ended} (m : meant text i ≡ request_of text) where
-  pub ends-unreadable : i ≡ Unreadable → Alone 24 e → Ends (request_of text) e
+module _ (text : List ℕ) {i : Option Names} {e : Ended} (m : meant i ≡ request_of text) where
+  pub ends-unreadable : i ≡ None → Alone 24 e → Ends (request_of text) e
   unfolding Ends meant
-  ends-unreadable same a = subst (λ (r : Request). Ends r e) (ap (meant text) (sym same) ∙ m) a
+  ends-unreadable same a = subst (λ (r : Request). Ends r e) (ap meant (sym same) ∙ m) a
 
-  pub ends-mending : {q : CubeLayout} {a b c d : ℕ} → i ≡ Names q a b c d → Mends q e → Ends (request_of text) e
+  pub ends-mending : {n : Names} → i ≡ Some n → Mends n.layout e → Ends (request_of text) e
   unfolding Ends meant
-  ends-mending same h = subst (λ (r : Request). Ends r e) (ap (meant text) (sym same) ∙ m) h
-
--- where the names stand in the text
-pub names-placed : (text : List ℕ) {i : Input} {q : CubeLayout} {a b c d : ℕ} → Placed text i → i ≡ Names q a b c d → (a ≤ b) × (b ≤ length text) × (c ≤ d) × (d ≤ length text)
-unfolding Placed
-names-placed text p same = subst (Placed text) same p
+  ends-mending same h = subst (λ (r : Request). Ends r e) (ap meant (sym same) ∙ m) h
 
 -- ---- the frame's checks
 
 whole-front : (q : CubeLayout) (a : Answer) → in_order (layout_checks q) ≡ a → in_order (box_checks q (whole_box q)) ≡ a
-whole-front q Accepted e = sym (box-accepted q (whole_box q) e (whole-inside q (valid q e)))
-whole-front q (Refused r i) e = sym (box-refused q (whole_box q) e)
+whole-front q (Ok _) e = sym (box-accepted q (whole_box q) e (whole-inside q (valid q e)))
+whole-front q (Err f) e = sym (box-refused q (whole_box q) e)
 
 pub room-checks : (q : CubeLayout) (len : ℕ) → clear_box_answer q (whole_box q) len ≡ in_order (layout_checks q ++ room_checks q len)
 unfolding clear_box_answer

@@ -7,10 +7,9 @@ use native.Mathlib.Omega.{arith}
 use mathlib.Core.Path.{◌≡◌, sym, ap, ◌∙◌}
 use mathlib.Core.List.{List}
 use lib.ListN.{length, take}
-use Rattle.refusal.specs.declared.Answer.TheVariants.{Accepted}
-use Rattle.refusal.specs.declared.Quantity.{Quantity}
-use Rattle.refusal.specs.declared.Quantity.TheVariants.{Is}
-use Rattle.refusal.proofs.CheckLaws.{quantity_given}
+use Rattle.std.specs.Prelude.{Ok}
+use Rattle.refusal.specs.Checks.{Accepted, Quantity}
+use Rattle.refusal.proofs.CheckLaws.{given-ok}
 use Rattle.layout.specs.declared.CubeLayout.{CubeLayout}
 use Rattle.padding.specs.Mending.{reported}
 use Rattle.padding.specs.Calls.{Lent, mend_answer, mend_count, mend_left}
@@ -19,10 +18,10 @@ use Rattle.padding.proofs.MendLaws.{reported-le}
 use Rattle.padding.proofs.CheckLaws.{Mendable, mendable}
 use Rattle.padding.proofs.CallLaws.{given-reported}
 
-module _ (q : CubeLayout) (first len : ℕ) (l : Lent) (n : ℕ) (given : mend_count q first len l ≡ Is n) where
+module _ (q : CubeLayout) (first len : ℕ) (l : Lent) (n : ℕ) (given : mend_count q first len l ≡ Ok n) where
   counted : (mend_answer q first len l ≡ Accepted) × (length (reported q first l.part) ≡ n)
   unfolding mend_count
-  counted = quantity_given (mend_answer q first len l) (length (reported q first l.part)) n given
+  counted = given-ok (mend_answer q first len l) (length (reported q first l.part)) n given
 
   taken : Mendable q first len (length l.part) (length l.positions) (length l.olds)
   unfolding mend_answer

@@ -1,10 +1,8 @@
 -- How a run of the mending program ends (change request K8): the number that it printed last, and by a checksum all that it gave to print. Whether a file opens,
 -- is read and is written to its end, and what its bytes are, the system decides: where these are free, the definition says so. Assumes nothing.
-use Rattle.std.specs.Prelude.{ℕ, ◌≡◌, ◌⊎◌, List, ◌++◌, length, take}
-use Rattle.refusal.specs.declared.Answer.{Answer}
-use Rattle.refusal.specs.declared.Answer.TheVariants.{Accepted, Refused}
+use Rattle.std.specs.Prelude.{ℕ, ◌≡◌, ◌⊎◌, List, ◌++◌, length, take, Ok, Err}
 use Rattle.refusal.specs.Codes.{code_of}
-use Rattle.refusal.specs.Checks.{in_order}
+use Rattle.refusal.specs.Checks.{in_order, Answer}
 use Rattle.layout.specs.declared.CubeLayout.{CubeLayout}
 use Rattle.layout.specs.Rules.{layout_checks, room_checks}
 use Rattle.lines.specs.Sums.{checksum}
@@ -34,8 +32,8 @@ pub record BrokenOff (q : CubeLayout) (e : Ended) : Type 0 where
 
 -- the first file was read to its end, and the frame's checks over its length have answered
 unfoldable pub Checked : Answer → CubeLayout → Ended → Type 0
-Checked (Refused r at) q e = Alone (code_of r) e
-Checked Accepted q e = Whole q e ⊎ BrokenOff q e
+Checked (Ok _) q e = Whole q e ⊎ BrokenOff q e
+Checked (Err fault) q e = Alone (code_of fault.0) e
 
 -- a run's end, by what its input asks for: where it is readable, 24 alone is the system's (a file that will not open or be read), and free
 unfoldable pub Ends : Request → Ended → Type 0

@@ -16,8 +16,7 @@ ghost use Rattle.mend_io.specs.Steps.{number_end, Batched, Shown, Stepped, Copie
 
 use layout::{CubeLayout, ElementBox};
 use lines::Line;
-use mend_text::Input;
-use refusal::{Answer, Quantity};
+use refusal::Answer;
 use std::fs::File;
 use std::io::{Read, Seek, SeekFrom, Write};
 use std::str::from_utf8;
@@ -26,29 +25,22 @@ use std::str::from_utf8;
 const STDOUT_FILENO: i32 = 1;
 
 // How a run ended: the number printed last, 0 if none; the length of the first file as it was read; a checksum of all bytes given to print.
-#[derive(Drop)]
+#[derive(Clone, Copy)]
 pub struct Ended {
     pub code: u32,
     pub length: u64,
     pub sum: u64,
 }
 
-// The length of a file that was read to its end.
-#[derive(Drop)]
-enum Length {
-    Bytes(u64),
-    Unreadable,
-}
-
 // The checksum after more bytes were given to print, and whether all went well.
-#[derive(Drop)]
+#[derive(Clone, Copy)]
 struct Printed {
     whole: bool,
     sum: u64,
 }
 
 // The same for some lines of a report, and how many they are.
-#[derive(Drop)]
+#[derive(Clone, Copy)]
 struct Batch {
     lines: usize,
     whole: bool,
@@ -56,7 +48,7 @@ struct Batch {
 }
 
 // One part more: the position after it and the checksum; the end of the file; or a read or a write failed, and the checksum.
-#[derive(Drop)]
+#[derive(Clone, Copy)]
 enum Step {
     More(u64, u64),
     End,
@@ -66,18 +58,12 @@ enum Step {
 // ---- the system's files. A name is UTF-8 text to the system's library: one that is not will not open.
 // A file to read.
 fn open_file(rt: &HostRuntime, name: &[u8]) -> Option<File> {
-    match from_utf8(name) {
-        Ok(text) => File::open(rt, text).ok(),
-        Err(_) => None,
-    }
+    File::open(rt, from_utf8(name).ok()?).ok()
 }
 
 // A file to write, made or emptied.
 fn make_file(rt: &HostRuntime, name: &[u8]) -> Option<File> {
-    match from_utf8(name) {
-        Ok(text) => File::create(rt, text).ok(),
-        Err(_) => None,
-    }
+    File::create(rt, from_utf8(name).ok()?).ok()
 }
 
 // Reads some bytes, and says how many; none at the file's end. Nothing where the read failed.
@@ -200,7 +186,7 @@ fn give_part(
     ensures part_bound { result.whole ≡ true → first + length part.old ≤ size }
 {
     let mended = padding_calls::mend(layout, first, size, part, positions, olds);
-    let Quantity::Is(count) = mended else {
+    let Ok(count) = mended else {
         return Printed {
             whole: false,
             sum: sum,
@@ -367,34 +353,33 @@ fn check(layout: CubeLayout, size: u64) -> Answer
 }
 
 // The file's length, by reading it to its end. A length that no number of 64 bits holds is never read.
-fn length_of(from: &File) -> Length {
+fn length_of(from: &File) -> Option<u64> {
     let mut buffer = io::large_buffer();
     let mut seen: u64 = 0;
+    // A while: it ends by the length seen, which the next part may not pass: the edit `length_wraps` turns that bound.
     while seen < 18446744073709486080 {
-        let Some(n) = read_part(from, &mut buffer) else {
-            return Length::Unreadable;
-        };
+        let n = read_part(from, &mut buffer)?;
         if n == 0 {
-            return Length::Bytes(seen);
+            return Some(seen);
         }
         seen += n as u64;
     }
-    Length::Unreadable
+    None
 }
 
 // The first file is open: its length, the frame's checks over it, and the second file.
 fn mend_first(rt: &HostRuntime, layout: CubeLayout, from: &File, second: &[u8]) -> Ended
     ensures { Mends layout result }
 {
-    let Length::Bytes(size) = length_of(from) else {
+    let Some(size) = length_of(from) else {
         return last(0, 24, 0);
     };
     if !back_to_start(from) {
         return last(0, 24, size);
     }
     match check(layout, size) {
-        Answer::Refused(r, _) => last(0, refusal::code(r), size),
-        Answer::Accepted => write_second(rt, layout, size, from, second),
+        Ok(()) => write_second(rt, layout, size, from, second),
+        Err(fault) => last(0, refusal::code(fault.0), size),
     }
 }
 
@@ -413,7 +398,7 @@ pub fn run(rt: &HostRuntime, text: &[u8]) -> Ended
     ensures { Ends (request_of text.now) result }
 {
     match mend_text::read_input(text) {
-        Input::Unreadable => last(0, 24, 0),
-        Input::Names(layout, a, b, c, d) => mend_files(rt, layout, &text[a..b], &text[c..d]),
+        Some(names) => mend_files(rt, names.layout, names.first, names.second),
+        None => last(0, 24, 0),
     }
 }

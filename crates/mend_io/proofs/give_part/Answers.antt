@@ -5,7 +5,7 @@ use mathlib.Core.Path.{◌≡◌, sym, subst, ◌∙◌}
 use mathlib.Core.List.{List}
 use lib.ListN.{length, take}
 use lib.Seq.{length-take-le}
-use Rattle.refusal.specs.declared.Quantity.TheVariants.{Is}
+use Rattle.std.specs.Prelude.{Ok}
 use Rattle.padding.specs.Mending.{Dirt, reported}
 use Rattle.padding.specs.Calls.{Lent, lent, mend_count}
 use Rattle.padding.specs.Files.{lines}
@@ -23,8 +23,8 @@ returns-then-not-write_part c = record { shown = shown-none _ _; part_bound = λ
 pub slice_bounds-print_report-end : goal.slice_bounds-print_report-end
 slice_bounds-print_report-end c =
     let lent_at : Lent = let a = c.args in lent a.part.now a.positions.now a.olds.now in
-    let count : ℕ = c.in-Is.count in
-    let is : mend_count c.args.layout c.args.first c.args.size lent_at ≡ Is count = sym c.mend-mended.ensures.counted ∙ c.in-Is.is in
+    let count : ℕ = c.in-Ok.count in
+    let is : mend_count c.args.layout c.args.first c.args.size lent_at ≡ Ok count = sym c.mend-mended.ensures.counted ∙ c.in-Ok.is in
     let positions-after : List ℕ = c.mend-mended.new.positions in
     let olds-after : List ℕ = c.mend-mended.new.olds in
     let places : count ≤ length positions-after =
@@ -35,8 +35,8 @@ slice_bounds-print_report-end c =
 pub slice_bounds-print_report-end-2 : goal.slice_bounds-print_report-end-2
 slice_bounds-print_report-end-2 c =
     let lent_at : Lent = let a = c.args in lent a.part.now a.positions.now a.olds.now in
-    let count : ℕ = c.in-Is.count in
-    let is : mend_count c.args.layout c.args.first c.args.size lent_at ≡ Is count = sym c.mend-mended.ensures.counted ∙ c.in-Is.is in
+    let count : ℕ = c.in-Ok.count in
+    let is : mend_count c.args.layout c.args.first c.args.size lent_at ≡ Ok count = sym c.mend-mended.ensures.counted ∙ c.in-Ok.is in
     let positions-after : List ℕ = c.mend-mended.new.positions in
     let olds-after : List ℕ = c.mend-mended.new.olds in
     let places : count ≤ length positions-after =
@@ -47,8 +47,8 @@ slice_bounds-print_report-end-2 c =
 pub slice_bounds-print_report-end-3 : goal.slice_bounds-print_report-end-3
 slice_bounds-print_report-end-3 c =
     let lent_at : Lent = let a = c.args in lent a.part.now a.positions.now a.olds.now in
-    let count : ℕ = c.in-Is.count in
-    let is : mend_count c.args.layout c.args.first c.args.size lent_at ≡ Is count = sym c.mend-mended.ensures.counted ∙ c.in-Is.is in
+    let count : ℕ = c.in-Ok.count in
+    let is : mend_count c.args.layout c.args.first c.args.size lent_at ≡ Ok count = sym c.mend-mended.ensures.counted ∙ c.in-Ok.is in
     let positions-after : List ℕ = c.mend-mended.new.positions in
     let olds-after : List ℕ = c.mend-mended.new.olds in
     let values : count ≤ length olds-after =
@@ -59,8 +59,8 @@ slice_bounds-print_report-end-3 c =
 pub slice_bounds-print_report-end-4 : goal.slice_bounds-print_report-end-4
 slice_bounds-print_report-end-4 c =
     let lent_at : Lent = let a = c.args in lent a.part.now a.positions.now a.olds.now in
-    let count : ℕ = c.in-Is.count in
-    let is : mend_count c.args.layout c.args.first c.args.size lent_at ≡ Is count = sym c.mend-mended.ensures.counted ∙ c.in-Is.is in
+    let count : ℕ = c.in-Ok.count in
+    let is : mend_count c.args.layout c.args.first c.args.size lent_at ≡ Ok count = sym c.mend-mended.ensures.counted ∙ c.in-Ok.is in
     let positions-after : List ℕ = c.mend-mended.new.positions in
     let olds-after : List ℕ = c.mend-mended.new.olds in
     let values : count ≤ length olds-after =
@@ -71,8 +71,8 @@ slice_bounds-print_report-end-4 c =
 pub print_report-requires : goal.print_report-requires
 print_report-requires c =
     let lent_at : Lent = let a = c.args in lent a.part.now a.positions.now a.olds.now in
-    let count : ℕ = c.in-Is.count in
-    let is : mend_count c.args.layout c.args.first c.args.size lent_at ≡ Is count = sym c.mend-mended.ensures.counted ∙ c.in-Is.is in
+    let count : ℕ = c.in-Ok.count in
+    let is : mend_count c.args.layout c.args.first c.args.size lent_at ≡ Ok count = sym c.mend-mended.ensures.counted ∙ c.in-Ok.is in
     let positions-after : List ℕ = c.mend-mended.new.positions in
     let olds-after : List ℕ = c.mend-mended.new.olds in
     let places : count ≤ length positions-after =
@@ -87,8 +87,8 @@ print_report-requires c =
 pub returns : goal.returns
 returns c =
     let lent_at : Lent = let a = c.args in lent a.part.now a.positions.now a.olds.now in
-    let count : ℕ = c.in-Is.count in
-    let is : mend_count c.args.layout c.args.first c.args.size lent_at ≡ Is count = sym c.mend-mended.ensures.counted ∙ c.in-Is.is in
+    let count : ℕ = c.in-Ok.count in
+    let is : mend_count c.args.layout c.args.first c.args.size lent_at ≡ Ok count = sym c.mend-mended.ensures.counted ∙ c.in-Ok.is in
     let positions-after : List ℕ = c.mend-mended.new.positions in
     let olds-after : List ℕ = c.mend-mended.new.olds in
     let report : lines (take count positions-after) (take count olds-after) ≡ reported c.args.layout c.args.first c.args.part.now =

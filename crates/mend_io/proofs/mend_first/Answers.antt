@@ -5,12 +5,12 @@ use Rattle.mend_io.specs.Steps.{number_end}
 use Rattle.mend_io.proofs.EndLaws.{mends-refused, mends-written}
 use Rattle.mend_io.proofs.mend_first.Goals as goal
 
-pub returns-in-Refused : goal.returns-in-Refused
-returns-in-Refused c =
+pub returns-in-Err : goal.returns-in-Err
+returns-in-Err c =
     let r = c in
-    let size = r.in-Bytes.size in
-    mends-refused _ _ (sym r.check.ensures ∙ r.in-Refused.is) (c.last-in-Refused.ensures ∙ ap (λ (n : ℕ). number_end 0 n size) c.code.ensures)
+    let size = r.in-Some.size in
+    mends-refused _ _ (sym r.check.ensures ∙ r.in-Err.is) (c.last-in-Err.ensures ∙ ap (λ (n : ℕ). number_end 0 n size) c.code.ensures)
 
-pub returns-in-Accepted : goal.returns-in-Accepted
-returns-in-Accepted c = let t = c in
-    mends-written _ _ (sym t.check.ensures ∙ t.in-Accepted.is) c.write_second.ensures
+pub returns-in-Ok : goal.returns-in-Ok
+returns-in-Ok c = let t = c in
+    mends-written _ _ (sym t.check.ensures ∙ t.in-Ok.is) c.write_second.ensures
