@@ -39,12 +39,10 @@ pub(crate) fn fill(
     requires shift_value { (shift_valid below.shift ≡ true) × (shift_valid above.shift ≡ true) }
     ensures { Filled firsts.old rises.old firsts.new rises.new table.now base last below above }
 {
-    let mut i: usize = 0;
-    while i < last {
+    for i in 0..last {
         let a = table[i];
         let b = table[i + 1];
         write(firsts, rises, base + i, a, b as i32 - a as i32);
-        i += 1;
     }
     let start = table[0];
     let end = table[last];

@@ -43,20 +43,13 @@ fn value(r: Row, firsts: &[i16; 324], rises: &[i32; 324], p: u32, x: i32) -> i32
     on_line(first, rise, d - (steps << shift) as i64, shift)
 }
 
-// 1 where b holds, else 0.
-fn one_if(b: bool) -> usize
-    ensures { result ≡ cond b 1 0 }
-{
-    if b { 1 } else { 0 }
-}
-
 // The number of a sample's side: 0 below, 1 hit, 2 above.
 fn side(s: Span, x: i32) -> usize
     ensures { result ≡ side_of s x }
 {
     let first = s.first;
     let last = s.last;
-    one_if(first <= x as i64) + one_if(last < x as i64)
+    (first <= x as i64) as usize + (last < x as i64) as usize
 }
 
 // The number of a sample's pair of sides.
@@ -94,15 +87,11 @@ fn each(
     ensures tallied { Tally (pair_of b) samples.now seen.new }
     ensures ranged { Ranged samples.now }
 {
-    let mut i: usize = 0;
-    while i < samples.len() {
-        let x = samples[i];
+    for (i, &x) in samples.iter().enumerate() {
         let k = pair(b, x);
         let r = rows[k];
-        let v = value(r, firsts, rises, power_of(wide, r, x), x);
-        outputs[i] = v;
+        outputs[i] = value(r, firsts, rises, power_of(wide, r, x), x);
         seen[k] = seen[k] + 1;
-        i += 1;
     }
 }
 

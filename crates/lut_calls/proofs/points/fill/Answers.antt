@@ -19,7 +19,7 @@ loop-i-preserved c =
     let a-fits : SFits w16 (get_or table l.i (pos 0)) = record { sfits = c.a-1.given } in
     let b-fits : SFits w16 (get_or table (l.i + 1) (pos 0)) = record { sfits = c.b-1.given } in
     let first = back16 (get_or table l.i (pos 0)) c.a-1.given in
-    (omega arith, rw (c.write.ensures.0, c.write.ensures.1) (begun-next l.invariant.1 _ _ (omega (arith, c.requires.firsts_len.2)) first (step_value a-fits b-fits) c.a-1.given))
+    rw (c.write.ensures.0, c.write.ensures.1) (begun-next l.invariant _ _ (omega (arith, c.requires.firsts_len.2, c.loop-i-test.true)) first (step_value a-fits b-fits) c.a-1.given)
 
 pub returns : goal.returns
 unfolding entry
@@ -29,8 +29,8 @@ returns c =
     let l = e in
     let a = l.args in
     let table = a.table.now in
-    let all : l.loop-i.i ≡ a.last = omega arith in
-    let h = subst (λ (n : ℕ). Begun a.firsts.now a.rises.now l.loop-i.firsts l.loop-i.rises table a.base n) all l.loop-i.invariant.1 in
+    let all : l.loop-i.i ≡ a.last = omega (arith, l.loop-i.auto.i-end, l.loop-i-test.false) in
+    let h = subst (λ (n : ℕ). Begun a.firsts.now a.rises.now l.loop-i.firsts l.loop-i.rises table a.base n) all l.loop-i.invariant in
     let above = w.rise in
     let below = c.rise-2 in
     rw (

@@ -1,10 +1,6 @@
 -- `lut_calls::points::fill` meets its contract. The loop's invariant: the points of the first i entries are written. Assumes nothing.
-use Prim.Native.Nat.{◌-◌, ◌≤◌}
 use Rattle.lut_calls.proofs.PointLaws.{Begun}
 use Rattle.lut_calls.proofs.points.fill.Given as goal
 
 abbrev pub invariant-loop-i : goal.invariant-loop-i
-invariant-loop-i l = (l.i ≤ l.last) × Begun l.initial.firsts l.initial.rises l.firsts l.rises l.table l.base l.i
-
-abbrev pub decreases-loop-i : goal.decreases-loop-i
-decreases-loop-i l = l.last - l.i
+invariant-loop-i l = Begun l.initial.firsts l.initial.rises l.firsts l.rises l.table l.base l.i

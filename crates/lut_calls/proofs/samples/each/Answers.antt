@@ -64,8 +64,8 @@ power_of-requires c =
     let a = c.args in
     powered a.rows a.b (get_or a.samples.now c.loop-i.i (pos 0)) c.x-1.given c.pair-k.result c.pair-k.ensures a.wide c.requires.all_ready
 
-pub value-v-requires : goal.value-v-requires
-value-v-requires c =
+pub value-requires : goal.value-requires
+value-requires c =
     let a = c.args in
     inside a.rows a.b (get_or a.samples.now c.loop-i.i (pos 0)) c.x-1.given c.pair-k.result c.pair-k.ensures a.wide c.power_of.result c.power_of.ensures c.requires.all_ready
 
@@ -80,7 +80,7 @@ overflow_add-seen c =
     let a = c.args in
     let o = c.loop-i in
     let few : length a.samples.now ≤ 4294967295 = c.requires.outputs_len.1 in
-    record { fits = omega (arith, tally-le (pair_of a.b) a.samples.now o.seen o.i o.invariant.4 c.pair-k.result o.invariant.0, few, c.loop-i-test.true) }
+    record { fits = omega (arith, tally-le (pair_of a.b) a.samples.now o.seen o.i o.invariant.tallied c.pair-k.result (omega (arith, c.loop-i-test.true)), few, c.loop-i-test.true) }
 
 pub offset_bounds-seen-k-in-loop-i : goal.offset_bounds-seen-k-in-loop-i
 offset_bounds-seen-k-in-loop-i c = record { fits = omega (arith, pair_small c.args.rows c.args.b (get_or c.args.samples.now c.loop-i.i (pos 0)) c.x-1.given c.pair-k.result c.pair-k.ensures) }
@@ -100,11 +100,11 @@ loop-i-preserved c =
     let h = c.loop-i-test.true in
     let pair = pair_is a.rows a.b x range k c.pair-k.ensures in
     let small = pair_small a.rows a.b x range k c.pair-k.ensures in
-    let value = value-is a.rows a.b x range k c.pair-k.ensures a.wide c.power_of.result c.power_of.ensures a.firsts.now a.rises.now c.value-v.result c.value-v.type_inv c.value-v.ensures in (
-      omega (arith, h),
-      length-set o.outputs i _ ∙ o.invariant.1,
-      length-set o.seen k _ ∙ o.invariant.2,
-      answered-next (pair_answer a.rows a.b a.firsts.now a.rises.now a.wide) samples o.outputs i h o.invariant.1 o.invariant.3 value,
-      tally-next (pair_of a.b) samples o.seen i o.invariant.4 h pair (omega (arith, small, o.invariant.2)),
-      λ j l. elim (ℕ_discrete j i) [ yes e ↦ rw e range | no f ↦ o.invariant.5 j (omega (arith, l, f)) ],
-    )
+    let value = value-is a.rows a.b x range k c.pair-k.ensures a.wide c.power_of.result c.power_of.ensures a.firsts.now a.rises.now c.value.result c.value.type_inv c.value.ensures in
+    record {
+      outputs_long = length-set o.outputs i _ ∙ o.invariant.outputs_long;
+      seen_long = length-set o.seen k _ ∙ o.invariant.seen_long;
+      answered = answered-next (pair_answer a.rows a.b a.firsts.now a.rises.now a.wide) samples o.outputs i h o.invariant.outputs_long o.invariant.answered value;
+      tallied = tally-next (pair_of a.b) samples o.seen i o.invariant.tallied h pair (omega (arith, small, o.invariant.seen_long));
+      ranged = λ j l. elim (ℕ_discrete j i) [ yes e ↦ rw e range | no f ↦ o.invariant.ranged j (omega (arith, l, f)) ];
+    }
