@@ -92,11 +92,11 @@ fn leave(desk: Desk, slot: u32, id: u32) -> Result<Done, Fault>
 {
     check_framed(desk)?;
     let value = regions_calls::count(desk.table, slot, id)?;
-    let desk = Desk {
-        table: emptied(desk.table, slot),
-        ..desk
-    };
-    Ok(Done { value, desk })
+    let table = emptied(desk.table, slot);
+    Ok(Done {
+        value,
+        desk: Desk { table, ..desk },
+    })
 }
 
 // Any record, or a line that is none.

@@ -16,11 +16,11 @@ returns-in_err-value c =
     let framed = sym c.check_framed.ensures ∙ c.in_ok-check_framed.was in
     handed-on _ c.from_residual-in_err-value.ensures.1 ∙ leave-refused a.desk a.slot a.id framed (sym c.count.ensures ∙ c.in_err-value.was)
 
-pub emptied-requires : goal.emptied-requires
-emptied-requires c = let a = c.args in leave-slot a.desk a.slot a.id (sym c.count.ensures ∙ c.in_ok-value.was)
+pub emptied-table-requires : goal.emptied-table-requires
+emptied-table-requires c = let a = c.args in leave-slot a.desk a.slot a.id (sym c.count.ensures ∙ c.in_ok-value.was)
 
 pub returns : goal.returns
 returns c =
     let a = c.args in
     let framed = sym c.check_framed.ensures ∙ c.in_ok-check_framed.was in
-    leave-counted a.desk a.slot a.id framed (sym c.count.ensures ∙ c.in_ok-value.was) c.emptied.ensures
+    leave-counted a.desk a.slot a.id framed (sym c.count.ensures ∙ c.in_ok-value.was) c.emptied-table.ensures
