@@ -194,6 +194,7 @@ pub fn read_numbers(rest: &[u8]) -> Option<Numbers>
 
 // ---- numbers as text
 // A line with a number's digits at its end.
+// Digits by hand: a Line that `write!` takes would need a fmt::Write with a contract of its own, and a Result that cannot be Err.
 pub fn add_number(line: Line, n: u64) -> Line
     ensures { result ≡ added line (digits n) }
 {
