@@ -6,20 +6,19 @@ use mathlib.Core.Path.{◌≡◌, refl}
 use mathlib.Core.List.{List, [], flatten}
 use lib.ListN.{length}
 use lib.IntN.{ℤ, pos}
-use Rattle.refusal.specs.declared.Answer.TheVariants.{Accepted}
+use Rattle.std.specs.Prelude.{Option, Some, None, Ok}
+use Rattle.refusal.specs.Checks.{Accepted}
 use Rattle.regions.specs.declared.RegionTable.{RegionTable}
 use Rattle.regions.specs.declared.Rectangle.{Rectangle}
 use Rattle.regions.specs.Calls.{place_table, release_answer, release_table}
 use Rattle.walk.specs.declared.Walk.{Walk}
 use Rattle.lut.specs.declared.Counters.{Counters}
 use Rattle.lut.specs.declared.LutSettings.{LutSettings}
-use Rattle.camera.specs.declared.Choice.{Choice}
-use Rattle.camera.specs.declared.Ready.TheVariants.{Setting}
+use Rattle.lut.specs.declared.Table.{Table}
 use Rattle.camera.specs.Ready.{ready_answer}
 use Rattle.lines.specs.Texts.{lines_of}
 use Rattle.script.specs.declared.Sheet.{Sheet}
 use Rattle.script.specs.declared.Row.{Row}
-use Rattle.script.specs.declared.Given.TheVariants.{Nothing, Line}
 use Rattle.script.specs.Sheets.{sheet}
 use Rattle.script.specs.Output.{fields_text, row_text}
 use Rattle.script.specs.Feed.{fed, finished}
@@ -76,19 +75,19 @@ pub counters-back : (c : Counters) → counters_from (counter_words c) ≡ c
 counters-back c = refl
 
 -- the ready-made words, fed to a linear run, are the ready-made settings
-pub ready-back : (select : ℤ) (priority overflow underflow : Choice) (s : LutSettings) → ready_answer select priority overflow underflow ≡ Setting s → fed_back s ≡ s
+pub ready-back : (select : ℤ) (priority overflow underflow : Option Table) (s : LutSettings) → ready_answer select priority overflow underflow ≡ Ok s → fed_back s ≡ s
 ready-back select priority overflow underflow s e = ready.ready-back select priority overflow underflow s e
 
 -- ---- sheets
 
 -- decoding what was encoded gives the state back
-pub sheet-back : (s : Sheet) (l : List ℕ) → length s.table.slots ≡ slot_count → length l ≡ state_size → sheet_from (with_sheet s l) s.lines.line.bytes ≡ s
+pub sheet-back : (s : Sheet) (l : List ℕ) → length s.desk.table.slots ≡ slot_count → length l ≡ state_size → sheet_from (with_sheet s l) s.lines.line.bytes ≡ s
 sheet-back s l slots long = state.sheet-back s l long slots
 
 -- an empty part leaves every word and the text, and no line ends; words are 32-bit numbers
 pub empty-part : (l text : List ℕ) → word l 0 < 2 ^ 32
     → let f = fed (sheet_from l text) [] in
-    (with_sheet f.sheet l ≡ l) × (f.sheet.lines.line.bytes ≡ text) × (f.read ≡ 0) × (f.given ≡ Nothing)
+    (with_sheet f.sheet l ≡ l) × (f.sheet.lines.line.bytes ≡ text) × (f.read ≡ 0) × (f.given ≡ None)
 empty-part l text h = feed.empty-part l text h
 
 -- a record that is refused, as its row says, leaves the frame word and the table's words
@@ -108,5 +107,5 @@ pub however-cut-words : (h : Held) → length h.words ≡ state_size → (parts 
 however-cut-words h long parts few = feed.however-cut-words h long parts few
 
 -- a row's words give the text of the row
-pub row-words-text : (r : Row) → let w = row_words (Line r) in fields_text (word w 1) (word w 2) (pos (word w 4)) ≡ row_text r
+pub row-words-text : (r : Row) → let w = row_words (Some r) in fields_text (word w 1) (word w 2) (pos (word w 4)) ≡ row_text r
 row-words-text r = unfold row_text row_words in refl

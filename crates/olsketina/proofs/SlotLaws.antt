@@ -10,9 +10,8 @@ use mathlib.Core.Path.{◌≡◌, refl, ap, ◌∙◌}
 use mathlib.Core.List.{List}
 use lib.ListN.{length, get_or, set, length-set}
 use lib.Seq.{get_or-set_same}
-use Rattle.refusal.specs.declared.Answer.{Answer}
-use Rattle.refusal.specs.declared.Answer.TheVariants.{Accepted, Refused}
-use Rattle.refusal.specs.Checks.{leaves}
+use Rattle.std.specs.Prelude.{Ok, Err}
+use Rattle.refusal.specs.Checks.{leaves, Answer, Accepted}
 use Rattle.refusal.proofs.CheckLaws.{leaves-done}
 use Rattle.regions.specs.declared.Region.{Region}
 use Rattle.regions.specs.declared.RegionTable.{RegionTable}
@@ -29,8 +28,8 @@ use Rattle.olsketina.proofs.TableLaws.{table-slots, decoded, slot-there, word_sa
 -- ---- one slot set where a call is accepted
 set_all : (a : Answer) (t : RegionTable) (n : ℕ) (r : Region) → length t.slots ≡ slot_count → length (leaves a (with_slot t n r) t).slots ≡ slot_count
 unfolding leaves
-set_all Accepted t n r long = length-set t.slots n r ∙ long
-set_all (Refused x i) t n r long = long
+set_all (Ok _) t n r long = length-set t.slots n r ∙ long
+set_all (Err fault) t n r long = long
 
 module _ (l : List ℕ) (n : ℕ) (r : Region) where
   abbrev said : RegionTable
@@ -41,15 +40,15 @@ module _ (l : List ℕ) (n : ℕ) (r : Region) where
 
   set_back : (a : Answer) → length l ≡ table_size → table_at (leaves a (with_table (after a) 0 l) l) 0 ≡ after a
   unfolding leaves
-  set_back Accepted long = decoded (with_slot said n r) 0 l (omega (arith, long)) (length-set said.slots n r ∙ table-slots l 0)
-  set_back (Refused x i) long = refl
+  set_back (Ok _) long = decoded (with_slot said n r) 0 l (omega (arith, long)) (length-set said.slots n r ∙ table-slots l 0)
+  set_back (Err fault) long = refl
 
   set-alone : (a : Answer) (p : ℕ) → Outside (layout_size + slot_size * n) slot_size p → word (leaves a (with_table (after a) 0 l) l) p ≡ word l p
   unfolding leaves
-  set-alone Accepted p out =
+  set-alone (Ok _) p out =
       overwritten-kept 0 (table_word (with_slot said n r)) 0 l table_size p
       (λ i h e. rw (← e) (slot-other said n r i (word l (0 + i)) (λ a b. out (omega arith) (omega arith)) ∙ word_same l 0 i h))
-  set-alone (Refused x i) p out = refl
+  set-alone (Err fault) p out = refl
 
 -- ---- a placing
 pub place-all : (t : RegionTable) (n id : ℕ) (g : Rectangle) → length t.slots ≡ slot_count → length (place_table t n id g).slots ≡ slot_count

@@ -1,10 +1,8 @@
 -- A sheet's calls as a C program makes them, one after another, over the words that it holds. That the rows are those of the whole input is a
 -- theorem (proofs/Claims.antt). Assumes nothing.
-use Rattle.std.specs.Prelude.{ℕ, zero, suc, List, [], ◌∷◌, ◌++◌, map, length, drop}
+use Rattle.std.specs.Prelude.{ℕ, zero, suc, List, [], ◌∷◌, ◌++◌, map, length, drop, Option, Some, None}
 use Rattle.script.specs.declared.Sheet.{Sheet}
 use Rattle.script.specs.declared.Row.{Row}
-use Rattle.script.specs.declared.Given.{Given}
-use Rattle.script.specs.declared.Given.TheVariants.{Nothing, Line}
 use Rattle.script.specs.Feed.{start_sheet, fed, finished}
 use Rattle.olsketina.specs.Sheets.{sheet_from, with_sheet, row_words}
 
@@ -25,9 +23,9 @@ abbrev pub begun : Held → Held
 begun h = holding start_sheet h
 
 -- the row that a call gave, before others
-unfoldable pub row_then : Given → List (List ℕ) → List (List ℕ)
-row_then Nothing rows = rows
-row_then (Line row) rows = row_words (Line row) ∷ rows
+unfoldable pub row_then : Option Row → List (List ℕ) → List (List ℕ)
+row_then None rows = rows
+row_then (Some row) rows = row_words (Some row) ∷ rows
 
 -- the rows that calls gave, and the state after them
 pub record Gave : Type 0 where
@@ -49,4 +47,4 @@ rows_held h (part ∷ parts) = (part_held (length part) h part).rows ++ rows_hel
 
 -- rows as words
 abbrev pub words_of : List Row → List (List ℕ)
-words_of rows = map (λ (r : Row). row_words (Line r)) rows
+words_of rows = map (λ (r : Row). row_words (Some r)) rows

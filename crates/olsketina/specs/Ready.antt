@@ -1,21 +1,19 @@
 -- The ready-made settings as arrays of words (include/olsketina.h). Refused: every array stays. Assumes nothing.
-use Rattle.std.specs.Prelude.{ℕ, ◌≡◌, cond, List, [], ◌∷◌, eqb, ℤ}
+use Rattle.std.specs.Prelude.{ℕ, ◌≡◌, cond, List, [], ◌∷◌, eqb, ℤ, Option, Some, None, Result}
+use Rattle.refusal.specs.declared.Fault.{Fault}
 use Rattle.lut.specs.declared.XMode.{XMode}
 use Rattle.lut.specs.declared.XMode.TheVariants.{Linear, Exponential}
 use Rattle.lut.specs.declared.Table.{Table}
 use Rattle.lut.specs.declared.Table.TheVariants.{X, Y}
 use Rattle.lut.specs.declared.LutSettings.{LutSettings}
+use Rattle.olsketina.specs.Answers.{stored}
 use Rattle.olsketina.specs.Words.{word}
 use Rattle.olsketina.specs.Tables.{says}
 use Rattle.olsketina.specs.Lookups.{linear_from}
-use Rattle.camera.specs.declared.Choice.{Choice}
-use Rattle.camera.specs.declared.Choice.TheVariants.{Unnamed, Named}
-use Rattle.camera.specs.declared.Ready.{Ready}
-use Rattle.camera.specs.declared.Ready.TheVariants.{Setting, Refused as NotGiven}
 
 -- a priority bit: 0 names X, 1 names Y, any other word leaves it unnamed
-unfoldable pub choice_named : ℕ → Choice
-choice_named w = cond (eqb w 0) (Named X) (cond (eqb w 1) (Named Y) Unnamed)
+unfoldable pub choice_named : ℕ → Option Table
+choice_named w = cond (eqb w 0) (Some X) (cond (eqb w 1) (Some Y) None)
 
 -- ---- settings as words
 
@@ -45,18 +43,13 @@ priority_words s = table_word s.priority ∷ table_word s.overflow ∷ table_wor
 
 -- ---- what the call gives
 
--- words made of the settings, or as they were where there are none
-abbrev pub ready_over : {A : Type 0} → (LutSettings → A) → Ready → A → A
-ready_over made (Setting s) before = made s
-ready_over made (NotGiven r at) before = before
-
--- the five arrays after the call are those words
-pub record ReadyStored (ready : Ready) (x y scales shifts : List ℤ) (priorities : List ℕ) (x' y' scales' shifts' : List ℤ) (priorities' : List ℕ) : Type 0 where
-  pub x_stored : x' ≡ ready_over x_words ready x
-  pub y_stored : y' ≡ ready_over y_words ready y
-  pub scales_stored : scales' ≡ ready_over scale_words ready scales
-  pub shifts_stored : shifts' ≡ ready_over shift_words ready shifts
-  pub priorities_stored : priorities' ≡ ready_over priority_words ready priorities
+-- the five arrays after the call are words made of the settings, or as they were where there are none
+pub record ReadyStored (ready : Result LutSettings Fault) (x y scales shifts : List ℤ) (priorities : List ℕ) (x' y' scales' shifts' : List ℤ) (priorities' : List ℕ) : Type 0 where
+  pub x_stored : x' ≡ stored x_words ready x
+  pub y_stored : y' ≡ stored y_words ready y
+  pub scales_stored : scales' ≡ stored scale_words ready scales
+  pub shifts_stored : shifts' ≡ stored shift_words ready shifts
+  pub priorities_stored : priorities' ≡ stored priority_words ready priorities
 
 -- the settings of a linear run on the words of settings
 abbrev pub fed_back : LutSettings → LutSettings

@@ -1,12 +1,10 @@
 -- A walk as an array of words, and what its calls store (include/olsketina.h). Any words are a walk. A refused start, and a step that has no atom left,
 -- leave every word and byte. Assumes nothing.
-use Rattle.std.specs.Prelude.{ℕ, ◌≡◌, List, [], ◌∷◌}
+use Rattle.std.specs.Prelude.{ℕ, ◌≡◌, List, [], ◌∷◌, Option, Some, None, Result}
+use Rattle.refusal.specs.declared.Fault.{Fault}
 use Rattle.walk.specs.declared.Walk.{Walk}
 use Rattle.walk.specs.declared.Step.{Step}
-use Rattle.walk.specs.declared.Started.{Started}
-use Rattle.walk.specs.declared.Started.TheVariants.{Walking, Refused}
-use Rattle.walk.specs.declared.NextAtom.{NextAtom}
-use Rattle.walk.specs.declared.NextAtom.TheVariants.{At, NoneLeft}
+use Rattle.olsketina.specs.Answers.{stored}
 use Rattle.olsketina.specs.Words.{word}
 
 -- position and index of the next atom; columns, rows and channels left; precision, width, height and plane; the strides of a line, a surface and a group
@@ -32,19 +30,18 @@ walk_words w =
     w.position ∷ w.index ∷ w.columns ∷ w.rows ∷ w.channels ∷ w.precision ∷ w.width ∷ w.height ∷ w.plane ∷ w.line ∷ w.surface ∷ w.group ∷ []
 
 -- the words after a start
-abbrev pub start_words : Started → List ℕ → List ℕ
-start_words (Walking w) before = walk_words w
-start_words (Refused r at) before = before
+abbrev pub start_words : Result Walk Fault → List ℕ → List ℕ
+start_words started before = stored walk_words started before
 
 -- 1 where a step gives an atom, else 0
-abbrev pub atom_word : NextAtom → ℕ
-atom_word (At position) = 1
-atom_word NoneLeft = 0
+abbrev pub atom_word : Option ℕ → ℕ
+atom_word (Some position) = 1
+atom_word None = 0
 
 -- made of the atom's position, or as it was where none is left
-abbrev pub atom_over : {A : Type 0} → (ℕ → A) → NextAtom → A → A
-atom_over made (At position) before = made position
-atom_over made NoneLeft before = before
+abbrev pub atom_over : {A : Type 0} → (ℕ → A) → Option ℕ → A → A
+atom_over made (Some position) before = made position
+atom_over made None before = before
 
 -- the number returned, and the walk's words, the position and the bytes stored, are a step's
 pub record StepGiven (s : Step) (walk : List ℕ) (position : ℕ) (bytes : List ℕ) (given : ℕ) (walk' : List ℕ) (position' : ℕ) (bytes' : List ℕ) : Type 0 where

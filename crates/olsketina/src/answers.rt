@@ -1,8 +1,8 @@
 // Answers as numbers: what a call returns, and what it stores.
 ghost use Rattle.olsketina.specs.Answers.{Answered, Valued, ConversionGiven};
 
-use quantize::Quantized;
-use refusal::{Answer, Quantity};
+use quantize::Converted;
+use refusal::{Answer, Fault};
 
 // The number of an answer; its index at fault is stored.
 pub(crate) fn give(answer: Answer, fault: &mut usize) -> u32
@@ -12,24 +12,22 @@ pub(crate) fn give(answer: Answer, fault: &mut usize) -> u32
     refusal::answer_code(answer)
 }
 
-// The number of a quantity's answer; its index at fault is stored, and the quantity where there is one.
-#[tactic(auto, unfolding(refusal::specs::Checks::leaves))]
-pub(crate) fn give_quantity(quantity: Quantity, value: &mut u64, fault: &mut usize) -> u32
-    ensures { Valued quantity value.old result value.new fault.new }
+// The number of what a call gave; its index at fault is stored, and the value where there is one.
+pub(crate) fn give_value<T: Copy>(given: Result<T, Fault>, value: &mut T, fault: &mut usize) -> u32
+    ensures { Valued given value.old result value.new fault.new }
 {
-    match quantity {
-        Quantity::Refused(refusal, at) => give(Answer::Refused(refusal, at), fault),
-        Quantity::Is(n) => {
-            *value = n;
-            give(Answer::Accepted, fault)
+    match given {
+        Ok(v) => {
+            *value = v;
+            give(Ok(()), fault)
         }
+        Err(refused) => give(Err(refused), fault),
     }
 }
 
 // The number of a conversion's answer; its index at fault is stored, and where there is a value, it and whether it was held.
-#[tactic(auto, unfolding(refusal::specs::Checks::leaves))]
 pub(crate) fn give_converted(
-    converted: Quantized,
+    converted: Result<Converted, Fault>,
     value: &mut i16,
     held: &mut u32,
     fault: &mut usize,
@@ -37,12 +35,11 @@ pub(crate) fn give_converted(
     ensures { ConversionGiven converted value.old held.old result value.new held.new fault.new }
 {
     match converted {
-        Quantized::Refused(refusal, at) => give(Answer::Refused(refusal, at), fault),
-        Quantized::Value(c) => {
-            let v = c.value;
-            *value = v;
-            *held = c.held as u32;
-            give(Answer::Accepted, fault)
+        Ok(c) => {
+            *value = c.value;
+            *held = u32::from(c.held);
+            give(Ok(()), fault)
         }
+        Err(refused) => give(Err(refused), fault),
     }
 }

@@ -1,14 +1,15 @@
 // The atoms of a cube in scan order: a walk as words, its start and its steps.
 ghost use Rattle.std.specs.Prelude.{◌≡◌};
-ghost use Rattle.walk.specs.Walks.{walk_start, started_answer, walk_step};
+ghost use Rattle.refusal.specs.Codes.{answer_of};
+ghost use Rattle.walk.specs.Walks.{walk_start, walk_step};
 ghost use Rattle.olsketina.specs.Answers.{Answered};
 ghost use Rattle.olsketina.specs.Words.{layout_from};
 ghost use Rattle.olsketina.specs.Walks.{walk_from, walk_words, start_words, StepGiven};
 
 use crate::words::{ATOM_BYTES, LAYOUT_WORDS, WALK_WORDS};
 use crate::{answers, words};
-use refusal::Answer;
-use walk::{NextAtom, Started, Step, Walk};
+use refusal::Fault;
+use walk::{Step, Walk};
 
 // The walk that words say.
 fn walk_of(words: &[u64; WALK_WORDS]) -> Walk
@@ -51,17 +52,11 @@ fn walk_words(walk: Walk) -> [u64; WALK_WORDS]
 }
 
 // Writes the words of a walk that was started; gives the number of the answer, and writes its index at fault.
-fn write_start(started: Started, walk: &mut [u64; WALK_WORDS], fault: &mut usize) -> u32
-    ensures answered { Answered (started_answer started) result fault.new }
+fn write_start(started: Result<Walk, Fault>, walk: &mut [u64; WALK_WORDS], fault: &mut usize) -> u32
+    ensures answered { Answered (answer_of started) result fault.new }
     ensures stored { walk.new ≡ start_words started walk.old }
 {
-    match started {
-        Started::Refused(refusal, at) => answers::give(Answer::Refused(refusal, at), fault),
-        Started::Walking(first) => {
-            *walk = walk_words(first);
-            answers::give(Answer::Accepted, fault)
-        }
-    }
+    answers::give_value(started.map(walk_words), walk, fault)
 }
 
 // Writes an atom that a step gives, and the walk behind it; gives 1 where there is one, else 0.
@@ -73,15 +68,14 @@ fn write_step(
 ) -> u32
     ensures { StepGiven step walk.old position.old bytes.old result walk.new position.new bytes.new }
 {
-    let atom = step.atom;
-    match atom {
-        NextAtom::NoneLeft => 0,
-        NextAtom::At(at) => {
-            let next = step.walk;
-            let given = step.bytes;
-            *walk = walk_words(next);
+    match step.atom {
+        None => 0,
+        Some(at) => {
+            *walk = walk_words(step.walk);
             *position = at;
-            *bytes = given;
+            // A variable: an array out of a field is not proved where it is stored straight.
+            let atom = step.bytes;
+            *bytes = atom;
             1
         }
     }
@@ -96,7 +90,7 @@ pub extern "C" fn olsketina_walk_start(
     walk: &mut [u64; WALK_WORDS],
     fault: &mut usize,
 ) -> u32
-    ensures answered { Answered (started_answer (walk_start (layout_from layout.now) elements.now buffer_len)) result fault.new }
+    ensures answered { Answered (answer_of (walk_start (layout_from layout.now) elements.now buffer_len)) result fault.new }
     ensures stored { walk.new ≡ start_words (walk_start (layout_from layout.now) elements.now buffer_len) walk.old }
 {
     let started = walk_calls::start(words::layout_at(layout, 0), elements, buffer_len);

@@ -28,7 +28,7 @@ pub extern "C" fn olsketina_layout_extent(
     ensures { Valued (extent_quantity (layout_from layout.now)) value.old result value.new fault.new }
 {
     let extent = layout_calls::extent(words::layout_at(layout, 0));
-    answers::give_quantity(extent, value, fault)
+    answers::give_value(extent, value, fault)
 }
 
 // cube::pack
@@ -74,5 +74,5 @@ pub extern "C" fn olsketina_cube_position(
     ensures { Valued (position_quantity (layout_from layout.now) channel row column) value.old result value.new fault.new }
 {
     let position = cube::position(words::layout_at(layout, 0), channel, row, column);
-    answers::give_quantity(position, value, fault)
+    answers::give_value(position, value, fault)
 }

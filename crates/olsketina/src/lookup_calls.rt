@@ -25,9 +25,8 @@ fn run(
 {
     let before = lut_words::counters_of(counters);
     let o = lut_calls::run(s, x_entries, y_entries, samples, outputs, before);
-    let answer = o.answer;
-    lut_words::leave_counters(counters, answer, o.counters);
-    answers::give(answer, fault)
+    lut_words::leave_counters(counters, o.answer, o.counters);
+    answers::give(o.answer, fault)
 }
 
 // lut_calls::run, X linear

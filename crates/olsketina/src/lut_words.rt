@@ -41,7 +41,7 @@ pub(crate) fn settings_of(
     ensures { result ≡ settings_from mode x.now y.now scales.now shifts.now priority overflow underflow }
 {
     let x_settings = XSettings {
-        mode: mode,
+        mode,
         start: x[1],
         end: x[2],
         below: slope_at(scales, shifts, 0),
@@ -81,7 +81,7 @@ pub(crate) fn counters_of(words: &[u32; COUNTERS]) -> Counters
 pub(crate) fn leave_counters(words: &mut [u32; COUNTERS], answer: Answer, counters: Counters)
     ensures { words.new ≡ leaves answer (counter_words counters) words.old }
 {
-    if let Answer::Accepted = answer {
+    if answer.is_ok() {
         *words = [
             counters.x,
             counters.y,
@@ -117,9 +117,7 @@ fn table_word(table: Table) -> u32
 pub(crate) fn x_words(s: LutSettings) -> [i32; SETTINGS_WORDS]
     ensures { result ≡ x_words s }
 {
-    let x = s.x;
-    let mode = x.mode;
-    [mode_number(mode), x.start, x.end]
+    [mode_number(s.x.mode), s.x.start, s.x.end]
 }
 
 // The Y table's select, start and end.
@@ -157,12 +155,9 @@ pub(crate) fn shift_words(s: LutSettings) -> [i32; SLOPES]
 pub(crate) fn priority_words(s: LutSettings) -> [u32; PRIORITIES]
     ensures { result ≡ priority_words s }
 {
-    let priority = s.priority;
-    let overflow = s.overflow;
-    let underflow = s.underflow;
     [
-        table_word(priority),
-        table_word(overflow),
-        table_word(underflow),
+        table_word(s.priority),
+        table_word(s.overflow),
+        table_word(s.underflow),
     ]
 }

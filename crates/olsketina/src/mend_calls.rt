@@ -26,5 +26,5 @@ pub extern "C" fn olsketina_padding_mend(
 {
     let q = words::layout_at(layout, 0);
     let mended = padding_calls::mend(q, first, length, part, positions, olds);
-    answers::give_quantity(mended, count, fault)
+    answers::give_value(mended, count, fault)
 }

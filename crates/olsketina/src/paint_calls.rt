@@ -29,12 +29,11 @@ pub extern "C" fn olsketina_parlour_paint(
 {
     let t = tables::table_at(table, 0);
     let conversion = Conversion {
-        offset: offset,
-        scale: scale,
-        shift: shift,
+        offset,
+        scale,
+        shift,
     };
     let picture = words::image_of(image);
     let o = parlour_calls::paint(t, slot, id, picture, pixels, conversion, buffer);
-    let count = o.held;
-    answers::give_quantity(count, held, fault)
+    answers::give_value(o.held, held, fault)
 }

@@ -28,7 +28,7 @@ pub extern "C" fn olsketina_pixels_position(
     ensures { Valued (position_quantity (image_from image.now) x y) value.old result value.new fault.new }
 {
     let position = pixels_calls::position(words::image_of(image), x, y);
-    answers::give_quantity(position, value, fault)
+    answers::give_value(position, value, fault)
 }
 
 // quantize::convert

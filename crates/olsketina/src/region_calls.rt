@@ -39,15 +39,14 @@ pub extern "C" fn olsketina_regions_place(
 {
     let before = tables::table_at(table, 0);
     let rectangle = Rectangle {
-        column: column,
-        row: row,
-        columns: columns,
-        rows: rows,
+        column,
+        row,
+        columns,
+        rows,
     };
     let o = regions_calls::place(before, slot, id, rectangle);
-    let answer = o.answer;
-    tables::leave_table(table, answer, o.table);
-    answers::give(answer, fault)
+    tables::leave_table(table, o.answer, o.table);
+    answers::give(o.answer, fault)
 }
 
 // regions_calls::edit
@@ -66,8 +65,7 @@ pub extern "C" fn olsketina_regions_edit(
 {
     let t = tables::table_at(table, 0);
     let o = regions_calls::edit(t, slot, id, words::box_of(b), elements, buffer);
-    let answer = o.answer;
-    answers::give(answer, fault)
+    answers::give(o.answer, fault)
 }
 
 // regions_calls::read
@@ -86,8 +84,7 @@ pub extern "C" fn olsketina_regions_read(
 {
     let t = tables::table_at(table, 0);
     let o = regions_calls::read(t, slot, id, words::box_of(b), buffer, elements);
-    let answer = o.answer;
-    answers::give(answer, fault)
+    answers::give(o.answer, fault)
 }
 
 // regions_calls::release
@@ -105,9 +102,8 @@ pub extern "C" fn olsketina_regions_release(
 {
     let before = tables::table_at(table, 0);
     let freed = regions_calls::release(before, slot, id, buffer);
-    let answer = freed.answer;
-    tables::leave_table(table, answer, freed.table);
-    answers::give(answer, fault)
+    tables::leave_table(table, freed.answer, freed.table);
+    answers::give(freed.answer, fault)
 }
 
 // regions_calls::position
@@ -126,7 +122,7 @@ pub extern "C" fn olsketina_regions_position(
 {
     let t = tables::table_at(table, 0);
     let n = regions_calls::position(t, slot, id, channel, row, column);
-    answers::give_quantity(n, value, fault)
+    answers::give_value(n, value, fault)
 }
 
 // regions_calls::count
@@ -142,5 +138,5 @@ pub extern "C" fn olsketina_regions_count(
 {
     let t = tables::table_at(table, 0);
     let n = regions_calls::count(t, slot, id);
-    answers::give_quantity(n, value, fault)
+    answers::give_value(n, value, fault)
 }

@@ -20,6 +20,7 @@ pub extern "C" fn olsketina_script_begin(
     ensures line { text.new ≡ start_sheet.lines.line.bytes }
 {
     let sheet = script_calls::begin();
+    // A variable: an array out of a field is not proved where it is stored straight.
     let empty = sheet.lines.line.bytes;
     *text = empty;
     sheet_words::write_sheet(state, sheet);
@@ -36,12 +37,11 @@ fn write_fed(
     ensures line { text.new ≡ given.sheet.lines.line.bytes }
     ensures ended { row.new ≡ row_words given.given }
 {
-    let sheet = given.sheet;
-    let bytes = sheet.lines.line.bytes;
-    let ended = given.given;
+    // A variable, as in olsketina_script_begin.
+    let bytes = given.sheet.lines.line.bytes;
     *text = bytes;
-    *row = sheet_words::row_words(ended);
-    sheet_words::write_sheet(state, sheet);
+    *row = sheet_words::row_words(given.given);
+    sheet_words::write_sheet(state, given.sheet);
 }
 
 // script_calls::feed
@@ -84,6 +84,7 @@ fn write_text(line: Line, text: &mut [u8; TEXT_BYTES]) -> u32
     ensures length { result ≡ line.length }
     ensures bytes { text.new ≡ line.bytes }
 {
+    // A variable, as in olsketina_script_begin.
     let written = line.bytes;
     *text = written;
     line.length

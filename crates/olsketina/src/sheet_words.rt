@@ -5,13 +5,13 @@ ghost use Rattle.olsketina.specs.Sheets.{sheet_from, with_sheet, row_words};
 use crate::tables;
 use crate::words::{ROW_WORDS, STATE_TABLE, STATE_WORDS, TEXT_BYTES};
 use lines::{Line, Lines};
-use script::{Given, Sheet};
+use script::{Desk, Row, Sheet};
 
 // A number of 64 bits by its low and its high word.
 fn joined(low: u32, high: u32) -> u64
     ensures { result ≡ low + 4294967296 * high }
 {
-    low as u64 + 4294967296 * high as u64
+    u64::from(low) + 4294967296 * u64::from(high)
 }
 
 // The state that words and text say.
@@ -19,17 +19,18 @@ fn joined(low: u32, high: u32) -> u64
 pub(crate) fn sheet_of(words: &[u32; STATE_WORDS], text: &[u8; TEXT_BYTES]) -> Sheet
     ensures { result ≡ sheet_from words.now text.now }
 {
-    let bytes = *text;
     Sheet {
         lines: Lines {
             count: joined(words[0], words[1]),
             line: Line {
                 length: words[2],
-                bytes: bytes,
+                bytes: *text,
             },
         },
-        framed: words[3] != 0,
-        table: tables::table_at(words, STATE_TABLE),
+        desk: Desk {
+            framed: words[3] != 0,
+            table: tables::table_at(words, STATE_TABLE),
+        },
     }
 }
 
@@ -41,26 +42,23 @@ pub(crate) fn write_sheet(words: &mut [u32; STATE_WORDS], sheet: Sheet)
     words[0] = (sheet.lines.count % 4294967296) as u32;
     words[1] = (sheet.lines.count / 4294967296) as u32;
     words[2] = sheet.lines.line.length;
-    words[3] = tables::flag_word(sheet.framed, old);
-    tables::write_table(words, STATE_TABLE, sheet.table);
+    words[3] = tables::flag_word(sheet.desk.framed, old);
+    tables::write_table(words, STATE_TABLE, sheet.desk.table);
 }
 
 // The row of a line that ended: 1, its number, answer, index at fault and value; all 0 where none ended.
 #[tactic(auto, unfolding(crate::specs::Sheets::row_words))]
-pub(crate) fn row_words(given: Given) -> [u64; ROW_WORDS]
+pub(crate) fn row_words(given: Option<Row>) -> [u64; ROW_WORDS]
     ensures { result ≡ row_words given }
 {
     match given {
-        Given::Nothing => [0u64; ROW_WORDS],
-        Given::Line(row) => {
-            let answer = row.answer;
-            [
-                1,
-                row.line,
-                refusal::answer_code(answer) as u64,
-                refusal::fault_index(answer) as u64,
-                row.value,
-            ]
-        }
+        None => [0u64; ROW_WORDS],
+        Some(row) => [
+            1,
+            row.line,
+            u64::from(refusal::answer_code(row.answer)),
+            refusal::fault_index(row.answer) as u64,
+            row.value,
+        ],
     }
 }

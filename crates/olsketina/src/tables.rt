@@ -33,10 +33,8 @@ fn slots_at(words: &[u32], at: usize) -> [Region; SLOTS]
     ensures { result ≡ slots_at words.now at }
 {
     let mut slots = [regions_calls::none(); SLOTS];
-    let mut i: usize = 0;
-    while i < SLOTS {
+    for i in 0..SLOTS {
         slots[i] = region_at(words, at + SLOT_WORDS * i);
-        i += 1;
     }
     slots
 }
@@ -113,11 +111,8 @@ pub(crate) fn write_table(words: &mut [u32], at: usize, table: RegionTable)
     requires { at + table_size ≤ length words.old }
     ensures { words.new ≡ with_table table at words.old }
 {
-    let mut i: usize = 0;
-    while i < TABLE_WORDS {
-        let old = words[at + i];
-        words[at + i] = table_word(table, i, old);
-        i += 1;
+    for i in 0..TABLE_WORDS {
+        words[at + i] = table_word(table, i, words[at + i]);
     }
 }
 
@@ -126,7 +121,7 @@ pub(crate) fn write_table(words: &mut [u32], at: usize, table: RegionTable)
 pub(crate) fn leave_table(words: &mut [u32; TABLE_WORDS], answer: Answer, table: RegionTable)
     ensures { words.new ≡ leaves answer (with_table table 0 words.old) words.old }
 {
-    if let Answer::Accepted = answer {
+    if answer.is_ok() {
         write_table(words, 0, table);
     }
 }

@@ -52,7 +52,7 @@ pub extern "C" fn olsketina_weights_position(
 {
     let layout = words::weights_of(weights);
     let position = weights_calls::position(layout, kernel, channel, row, column);
-    answers::give_quantity(position, value, fault)
+    answers::give_value(position, value, fault)
 }
 
 // weights_calls::count
@@ -65,7 +65,7 @@ pub extern "C" fn olsketina_weights_count(
     ensures { Valued (count_quantity (weights_from weights.now)) value.old result value.new fault.new }
 {
     let count = weights_calls::count(words::weights_of(weights));
-    answers::give_quantity(count, value, fault)
+    answers::give_value(count, value, fault)
 }
 
 // weights_calls::extent
@@ -78,5 +78,5 @@ pub extern "C" fn olsketina_weights_extent(
     ensures { Valued (extent_quantity (weights_from weights.now)) value.old result value.new fault.new }
 {
     let extent = weights_calls::extent(words::weights_of(weights));
-    answers::give_quantity(extent, value, fault)
+    answers::give_value(extent, value, fault)
 }

@@ -18,15 +18,12 @@ abbrev made : List ℕ → ℕ → ℕ → Region → Region
 made words at j old = region_at words (at + slot_size * j)
 
 pub loop-i-init : goal.loop-i-init
-loop-i-init c = (omega arith, unfold overwritten in refl)
+loop-i-init c = unfold overwritten in refl
 
 pub loop-i-preserved : goal.loop-i-preserved
-loop-i-preserved c = (
-  omega arith,
-  rw c.region_at.ensures (rw zero-add at (overwritten-next no_region (made c.args.words.now c.args.at) 0 _ c.loop-i.i c.loop-i.invariant.1)),
-)
+loop-i-preserved c = rw c.region_at.ensures (rw zero-add at (overwritten-next no_region (made c.args.words.now c.args.at) 0 _ c.loop-i.i c.loop-i.invariant))
 
 pub returns : goal.returns
 returns c =
-    let all : c.loop-i.i ≡ slot_count = omega (arith, c.loop-i.invariant.0) in
-    c.loop-i.invariant.1 ∙ rw all (unfold overwritten slots_at tabulate tabulate_from in refl)
+    let all : c.loop-i.i ≡ slot_count = omega arith in
+    c.loop-i.invariant ∙ rw all (unfold overwritten slots_at tabulate tabulate_from in refl)
