@@ -1,12 +1,10 @@
 // Runs the mending program's library on many inputs, over the files of data/: after each run, how it ended, and what then stands in a file that the case names.
 #![tactic(auto)]
 
-ghost use Rattle.std.specs.Prelude.{◌≡◌, ◌≤◌, length, IfSome};
+ghost use Rattle.std.specs.Prelude.{◌≡◌, length};
 
 use mend_io::Ended;
-use std::fs::File;
-use std::io::Read;
-use std::str::from_utf8;
+use mend_io::files::{open_file, read_part};
 
 // The descriptors of standard input and output.
 const STDIN_FILENO: i32 = 0;
@@ -14,10 +12,10 @@ const STDIN_FILENO: i32 = 0;
 const STDOUT_FILENO: i32 = 1;
 
 // A file's length and the checksum of its bytes.
-#[derive(Drop)]
-enum Contents {
-    Bytes(u64, u64),
-    Unreadable,
+#[derive(Clone, Copy)]
+struct Contents {
+    length: u64,
+    sum: u64,
 }
 
 // 262,144 zeros, for all cases. The `ensures` gives only the length.
@@ -27,30 +25,22 @@ fn all_cases() -> [u8; 262144]
     [0; 262144]
 }
 
-// Reads some bytes, and says how many; none at the file's end. Nothing where the read failed.
-fn read_part(from: &File, part: &mut [u8]) -> Option<usize>
-    ensures { IfSome result (λ n. n ≤ length part.new) }
-{
-    let mut file = from;
-    file.read(part).ok()
-}
-
-// Reads a file to its end.
-fn contents_of(from: &File) -> Contents {
+// What stands in a file, read to its end.
+fn contents_of(rt: &HostRuntime, name: &[u8]) -> Option<Contents> {
+    let from = open_file(rt, name)?;
     let mut buffer = io::large_buffer();
-    let mut seen: u64 = 0;
+    let mut length: u64 = 0;
     let mut sum: u64 = 0;
-    while seen < 18446744073709486080 {
-        let Some(n) = read_part(from, &mut buffer) else {
-            return Contents::Unreadable;
-        };
+    // A while: it ends by the length read, which the next part may not pass, as in mend_io.
+    while length < 18446744073709486080 {
+        let n = read_part(&from, &mut buffer)?;
         if n == 0 {
-            return Contents::Bytes(seen, sum);
+            return Some(Contents { length, sum });
         }
         sum = lines_calls::summed(sum, &buffer[..n]);
-        seen += n as u64;
+        length += n as u64;
     }
-    Contents::Unreadable
+    None
 }
 
 fn print_space() {
@@ -70,30 +60,14 @@ fn print_pair(length: u64, sum: u64) {
     print_last(sum);
 }
 
-fn print_contents(contents: Contents) {
-    match contents {
-        Contents::Bytes(length, sum) => print_pair(length, sum),
-        Contents::Unreadable => {
+// Prints what stands in a file.
+fn show(rt: &HostRuntime, name: &[u8]) {
+    match contents_of(rt, name) {
+        Some(contents) => print_pair(contents.length, contents.sum),
+        None => {
             io::write_all(STDOUT_FILENO, b"none\n");
         }
     }
-}
-
-// A file to read. A name is UTF-8 text to the system's library: one that is not will not open.
-fn open_file(rt: &HostRuntime, name: &[u8]) -> Option<File> {
-    match from_utf8(name) {
-        Ok(text) => File::open(rt, text).ok(),
-        Err(_) => None,
-    }
-}
-
-// What stands in a file.
-fn show(rt: &HostRuntime, name: &[u8]) {
-    let Some(from) = open_file(rt, name) else {
-        io::write_all(STDOUT_FILENO, b"none\n");
-        return;
-    };
-    print_contents(contents_of(&from));
 }
 
 // How a run ended.
@@ -108,7 +82,7 @@ fn print_ended(ended: Ended) {
 fn run_case(rt: &HostRuntime, number: u64, case: &[u8]) {
     io::write_all(STDOUT_FILENO, b"case ");
     print_last(number);
-    let n = lines_calls::part_length(case, 10);
+    let n = lines_calls::part_length(case, b'\n');
     if n < case.len() {
         print_ended(mend_io::run(rt, &case[n + 1..]));
     }
@@ -119,6 +93,7 @@ fn run_case(rt: &HostRuntime, number: u64, case: &[u8]) {
 fn run_all(rt: &HostRuntime, cases: &[u8]) {
     let mut number: u64 = 0;
     let mut from = 0;
+    // A while: it goes on by a case, not by one.
     while from < cases.len() {
         let end = from + lines_calls::part_length(&cases[from..], 0);
         number += 1;

@@ -21,9 +21,9 @@ use Rattle.padding.specs.Mending.{Dirt, reported}
 use Rattle.padding.proofs.MendLaws.{reported-append}
 use Rattle.mend_text.specs.Reports.{header, report_text}
 use Rattle.mend_text.proofs.TextLaws.{report_text-append}
-use Rattle.mend_io.specs.declared.Printed.{Printed}
-use Rattle.mend_io.specs.declared.Step.{Step}
-use Rattle.mend_io.specs.declared.Step.TheVariants.{More, End, Failed}
+use Rattle.mend_io.specs.declared.printing.Printed.{Printed}
+use Rattle.mend_io.specs.declared.copying.Step.{Step}
+use Rattle.mend_io.specs.declared.copying.Step.TheVariants.{More, End, Failed}
 use Rattle.mend_io.specs.Steps.{Shown, PartCopied, PartBroken, Stepped, Copied}
 
 -- the header and the reports of some parts were printed, up to position `at`

@@ -29,7 +29,7 @@ use Rattle.mend_text.specs.declared.Names.{Names}
 use Rattle.mend_text.specs.Requests.{Request, meant, request_of}
 use Rattle.mend_text.specs.Reports.{header, report_text, number_text, output}
 use Rattle.mend_io.specs.declared.Ended.{Ended}
-use Rattle.mend_io.specs.declared.Printed.{Printed}
+use Rattle.mend_io.specs.declared.printing.Printed.{Printed}
 use Rattle.mend_io.specs.Ending.{Alone, Whole, BrokenOff, Checked, Ends}
 use Rattle.mend_io.specs.Steps.{number_end, Copied, Written, Mends}
 

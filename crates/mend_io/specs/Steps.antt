@@ -8,10 +8,10 @@ use Rattle.lines.specs.Sums.{checksum}
 use Rattle.padding.specs.Mending.{Dirt, reported}
 use Rattle.mend_text.specs.Reports.{header, report_text, number_text}
 use Rattle.mend_io.specs.declared.Ended.{Ended}
-use Rattle.mend_io.specs.declared.Printed.{Printed}
-use Rattle.mend_io.specs.declared.Batch.{Batch}
-use Rattle.mend_io.specs.declared.Step.{Step}
-use Rattle.mend_io.specs.declared.Step.TheVariants.{More, End, Failed}
+use Rattle.mend_io.specs.declared.printing.Printed.{Printed}
+use Rattle.mend_io.specs.declared.printing.Batch.{Batch}
+use Rattle.mend_io.specs.declared.copying.Step.{Step}
+use Rattle.mend_io.specs.declared.copying.Step.TheVariants.{More, End, Failed}
 use Rattle.mend_io.specs.Ending.{Alone, Whole, BrokenOff, Checked}
 
 -- a number is printed last

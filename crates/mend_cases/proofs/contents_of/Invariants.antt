@@ -4,8 +4,8 @@ use mathlib.Core.Path.{◌≡◌}
 use lib.ListN.{length}
 use Rattle.mend_cases.proofs.contents_of.Given as goal
 
-abbrev pub invariant-loop-seen : goal.invariant-loop-seen
-invariant-loop-seen l = 65536 ≡ length l.buffer
+abbrev pub invariant-loop-length : goal.invariant-loop-length
+invariant-loop-length l = 65536 ≡ length l.buffer
 
-abbrev pub decreases-loop-seen : goal.decreases-loop-seen
-decreases-loop-seen l = 18446744073709551615 - l.seen
+abbrev pub decreases-loop-length : goal.decreases-loop-length
+decreases-loop-length l = 18446744073709551615 - l.length

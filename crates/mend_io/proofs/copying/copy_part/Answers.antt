@@ -1,11 +1,11 @@
--- `mend_io::copy_part` meets its contract. Assumes nothing.
+-- `mend_io::copying::copy_part` meets its contract. Assumes nothing.
 use native.Mathlib.Omega.{arith}
 use mathlib.Core.Path.{◌≡◌}
 use lib.ListN.{length, take}
 use lib.Seq.{length-take-le}
 use borrow.Author.Tests.{not-false}
 use Rattle.mend_io.proofs.CopyLaws.{step-none, step_end, step-failed, step-more}
-use Rattle.mend_io.proofs.copy_part.Goals as goal
+use Rattle.mend_io.proofs.copying.copy_part.Goals as goal
 
 pub returns-in_default : goal.returns-in_default
 returns-in_default c = step-none _ _ _ _

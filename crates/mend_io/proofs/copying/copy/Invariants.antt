@@ -1,10 +1,10 @@
--- `mend_io::copy` meets its contract. The loop's invariant: the header and the reports of the parts so far are printed, and the buffers keep their lengths. The measure is what is left
+-- `mend_io::copying::copy` meets its contract. The loop's invariant: the header and the reports of the parts so far are printed, and the buffers keep their lengths. The measure is what is left
 -- of the length read: a part has at least one byte, and ends within it. Assumes nothing.
 use Prim.Native.Nat.{◌-◌}
 use mathlib.Core.Path.{◌≡◌}
 use lib.ListN.{length}
 use Rattle.mend_io.proofs.CopyLaws.{Copying}
-use Rattle.mend_io.proofs.copy.Given as goal
+use Rattle.mend_io.proofs.copying.copy.Given as goal
 
 abbrev pub invariant-loop-next : goal.invariant-loop-next
 invariant-loop-next l =

@@ -1,4 +1,4 @@
--- `mend_io::print_report` meets its contract. The loop's invariant: the lines before `from` are printed. The measure is what is left of the report. Assumes nothing.
+-- `mend_io::printing::print_report` meets its contract. The loop's invariant: the lines before `from` are printed. The measure is what is left of the report. Assumes nothing.
 use Prim.Native.Nat.{◌+◌, ◌≤◌}
 use native.Mathlib.Omega.{arith}
 use mathlib.Core.Path.{◌≡◌, refl}
@@ -9,7 +9,7 @@ use Rattle.padding.specs.Files.{lines}
 use Rattle.mend_text.specs.Reports.{report_text}
 use Rattle.mend_io.proofs.ReportLaws.{batch-rest, batch-within, batch-more, shown-all, shown-broken, shown-whole}
 use borrow.Author.Rules.{rules}
-use Rattle.mend_io.proofs.print_report.Goals as goal
+use Rattle.mend_io.proofs.printing.print_report.Goals as goal
 
 pub loop-from-init : goal.loop-from-init
 unfolding checksum report_text flatten

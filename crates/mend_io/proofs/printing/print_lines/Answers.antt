@@ -1,4 +1,4 @@
--- `mend_io::print_lines` meets its contract: what is printed is the text of the lines that fit. Assumes nothing.
+-- `mend_io::printing::print_lines` meets its contract: what is printed is the text of the lines that fit. Assumes nothing.
 use Prim.Native.Nat.{◌≤◌, ◌<◌}
 use native.Mathlib.Omega.{arith}
 use mathlib.Core.Path.{sym, ap, subst, ◌∙◌}
@@ -8,7 +8,7 @@ use Rattle.lines.specs.Sums.{checksum}
 use Rattle.mend_text.specs.declared.Gathered.{Gathered}
 use Rattle.mend_text.proofs.GatherLaws.{gather-some}
 use Rattle.mend_io.proofs.ReportLaws.{gathered-lines, gathered-bytes, gathered-text}
-use Rattle.mend_io.proofs.print_lines.Goals as goal
+use Rattle.mend_io.proofs.printing.print_lines.Goals as goal
 
 pub slice_bounds-print-end : goal.slice_bounds-print-end
 slice_bounds-print-end c =

@@ -1,4 +1,4 @@
--- `mend_io::copy` meets its contract. The loop's invariant: the header and the reports of the parts so far are printed, and the buffers keep their lengths. The measure is what is left
+-- `mend_io::copying::copy` meets its contract. The loop's invariant: the header and the reports of the parts so far are printed, and the buffers keep their lengths. The measure is what is left
 -- of the length read: a part has at least one byte, and ends within it. Assumes nothing.
 use native.Mathlib.Omega.{arith}
 use mathlib.Core.Path.{refl}
@@ -6,7 +6,7 @@ use borrow.Author.Rules.{rules}
 use borrow.Author.Tests.{not-true}
 use Rattle.mend_io.specs.Steps.{PartCopied}
 use Rattle.mend_io.proofs.CopyLaws.{copying-none, copying-more, copied-begun, copied-end, copied-failed, stepped-more, stepped-failed}
-use Rattle.mend_io.proofs.copy.Goals as goal
+use Rattle.mend_io.proofs.copying.copy.Goals as goal
 
 -- one part more
 part : (c : goal.In-More)

@@ -1,4 +1,4 @@
--- `mend_io::give_part` meets its contract: where the part is accepted, what is printed is its report. Assumes nothing.
+-- `mend_io::copying::give_part` meets its contract: where the part is accepted, what is printed is its report. Assumes nothing.
 use Prim.Native.Nat.{ℕ, ◌≤◌}
 use native.Mathlib.Omega.{arith}
 use mathlib.Core.Path.{◌≡◌, sym, subst, ◌∙◌}
@@ -12,7 +12,7 @@ use Rattle.padding.specs.Files.{lines}
 use Rattle.mend_io.specs.Steps.{Shown}
 use Rattle.mend_io.proofs.ReportLaws.{shown-none}
 use Rattle.mend_io.proofs.PartLaws.{part-within, count-positions, count-olds, count-report}
-use Rattle.mend_io.proofs.give_part.Goals as goal
+use Rattle.mend_io.proofs.copying.give_part.Goals as goal
 
 pub returns-in_default : goal.returns-in_default
 returns-in_default c = record { shown = shown-none _ _; part_bound = λ e. absurd (let z : ◌≡◌ {A = ℕ} 0 1 = cc in omega arith) }
