@@ -17,7 +17,7 @@ const STDIN_FILENO: i32 = 0;
 const STDOUT_FILENO: i32 = 1;
 
 // The state after what was read, and the checksum of all bytes that were written.
-#[derive(Clone, Copy)]
+#[derive(Drop)]
 pub struct Printed {
     pub sheet: Sheet,
     pub sum: u64,
@@ -27,48 +27,60 @@ pub struct Printed {
 fn kept(length: u32) -> usize
     ensures { result ≡ min length 120 }
 {
-    length.min(120) as usize
+    if length < 120 {
+        return length as usize;
+    }
+    120
 }
 
-// Writes bytes if they are to be shown.
-fn show<const SHOWN: bool>(text: &[u8]) {
-    if SHOWN {
+// Writes bytes if they are to be shown. A bool and no const parameter: the public calls below take it from callers that decide as they run.
+fn show(shown: bool, text: &[u8]) {
+    if shown {
         io::write_all(STDOUT_FILENO, text);
     }
 }
 
 // Writes a text if it is to be shown; the checksum after it.
-fn write<const SHOWN: bool>(sum: u64, text: Line) -> u64
+fn write(shown: bool, sum: u64, text: Line) -> u64
     ensures { result ≡ checksum sum (line_text text) }
 {
     let n = kept(text.length);
-    show::<SHOWN>(&text.bytes[..n]);
-    lines_calls::summed(sum, &text.bytes[..n])
+    let bytes = text.bytes;
+    show(shown, &bytes[..n]);
+    lines_calls::summed(sum, &bytes[..n])
 }
 
 // Feeds a part of the input until all of it is read, and writes what each call gives.
-pub fn feed_all<const SHOWN: bool>(before: Printed, part: &[u8]) -> Printed
+pub fn feed_all(shown: bool, before: Printed, part: &[u8]) -> Printed
     ensures { result ≡ part_printed before part.now }
 {
-    let Printed { mut sheet, mut sum } = before;
+    let mut state = before.sheet;
+    let mut sum = before.sum;
     let mut from = 0;
-    // A while: it goes on by what each call read, not by one.
+    // A while: it goes on by as many bytes as a feed read.
     while from < part.len() {
-        let fed = script_calls::feed(sheet, &part[from..]);
-        sum = write::<SHOWN>(sum, script_calls::given_text(fed.given));
-        sheet = fed.sheet;
+        let fed = script_calls::feed(state, &part[from..]);
+        let given = fed.given;
+        sum = write(shown, sum, script_calls::given_text(given));
+        state = fed.sheet;
         from += fed.read;
     }
-    Printed { sheet, sum }
+    Printed {
+        sheet: state,
+        sum: sum,
+    }
 }
 
 // No part is read, and the header is written.
-pub fn begin<const SHOWN: bool>() -> Printed
+pub fn begin(shown: bool) -> Printed
     ensures { result ≡ start_printed }
 {
     let sheet = script_calls::begin();
-    let header = write::<SHOWN>(0, script_calls::header_text());
-    Printed { sheet, sum: header }
+    let header = write(shown, 0, script_calls::header_text());
+    Printed {
+        sheet: sheet,
+        sum: header,
+    }
 }
 
 // Reads the input part by part. The count of parts only bounds the loop: 2^64 of them are never read.
@@ -76,25 +88,30 @@ fn read_all() -> Printed
     ensures { Reading result }
 {
     let mut buffer = io::large_buffer();
-    let mut printed = begin::<true>();
-    for _ in 0..u64::MAX {
+    let mut printed = begin(true);
+    let mut left: u64 = 18446744073709551615;
+    while 0 < left {
         let n = io::read_full(STDIN_FILENO, &mut buffer);
         if n == 0 {
             break;
         }
-        printed = feed_all::<true>(printed, &buffer[..n]);
+        printed = feed_all(true, printed, &buffer[..n]);
+        left -= 1;
     }
     printed
 }
 
 // The end of the input: the row of a last line that lacks its newline.
-pub fn finish<const SHOWN: bool>(before: Printed) -> Printed
+pub fn finish(shown: bool, before: Printed) -> Printed
     ensures { result ≡ end_printed before }
 {
-    let last = script_calls::finish(before.sheet);
-    let all = write::<SHOWN>(before.sum, script_calls::given_text(last.given));
+    let sheet = before.sheet;
+    let last = script_calls::finish(sheet);
+    let given = last.given;
+    let all = write(shown, before.sum, script_calls::given_text(given));
+    let end = last.sheet;
     Printed {
-        sheet: last.sheet,
+        sheet: end,
         sum: all,
     }
 }
@@ -103,5 +120,5 @@ pub fn finish<const SHOWN: bool>(before: Printed) -> Printed
 pub fn run() -> Printed
     ensures { Whole result }
 {
-    finish::<true>(read_all())
+    finish(true, read_all())
 }

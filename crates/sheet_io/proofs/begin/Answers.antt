@@ -4,4 +4,4 @@ use Rattle.script.specs.Output.{header}
 use Rattle.sheet_io.proofs.begin.Goals as goal
 
 pub returns : goal.returns
-returns g c = rw (c.write-header.ensures, c.header_text.ensures, c.begin-sheet.ensures, written-text header)
+returns c = rw (c.write-header.ensures, c.header_text.ensures, c.begin-sheet.ensures, written-text header)

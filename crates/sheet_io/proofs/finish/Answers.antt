@@ -3,4 +3,4 @@ use Rattle.sheet_io.proofs.PrintLaws.{reading-end}
 use Rattle.sheet_io.proofs.finish.Goals as goal
 
 pub returns : goal.returns
-returns g c = let w = c in reading-end w.args.before w.finish-last.ensures w.given_text.ensures w.write-all.ensures
+returns c = let w = c in reading-end w.args.before w.finish-last.ensures w.given_text.ensures w.write-all.ensures

@@ -7,7 +7,7 @@ use Rattle.lines.proofs.HoldLaws.{kept-bytes}
 use Rattle.sheet_io.proofs.write.Goals as goal
 
 pub returns : goal.returns
-returns g c =
+returns c =
     let room : length c.args.text.bytes ≡ 120 = search length-mapped in
     let k = c in
     let a = k.args in
