@@ -14,6 +14,7 @@ use lut::{Counters, LutOutcome, LutSettings};
 
 // What answers the samples of one pair of sides. A sample's distance from the origin, in steps of a size, leads by whole steps of 2^shift to a point from
 // base on, where steps count: on is then 1, else 0. Wide is 1 where the row is exponential, else 0.
+// On and wide are numbers and no bools: a distance is multiplied by them, so that the loop over the samples has no branch on a row's kind.
 #[derive(Clone, Copy)]
 struct Row {
     origin: i32,

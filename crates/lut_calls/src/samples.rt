@@ -95,7 +95,7 @@ fn each(
     }
 }
 
-// The same, one loop for linear tables and one for exponential ones.
+// The same, one loop for linear tables and one for exponential ones. No const parameter: tried, its value in the proofs goes by a name of the prover's own (WIDE-type).
 fn all(
     rows: [Row; 9],
     b: Bounds,
