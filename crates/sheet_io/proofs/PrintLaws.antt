@@ -16,8 +16,7 @@ use Rattle.lines.proofs.SumLaws.{checksum-append}
 use Rattle.script.specs.declared.Sheet.{Sheet}
 use Rattle.script.specs.declared.Fed.{Fed}
 use Rattle.script.specs.declared.Row.{Row}
-use Rattle.script.specs.declared.Given.{Given}
-use Rattle.script.specs.declared.Given.TheVariants.{Nothing, Line as Ended}
+use Rattle.std.proofs.Common.{Option, None, Some}
 use Rattle.script.specs.Feed.{Outcome, start_sheet, fed, finished, and_then, then_fed, part_fed, whole_part, rows_of_parts}
 use Rattle.script.specs.Output.{header, row_text, given_text, output, output_of_parts}
 use Rattle.script.proofs.CallLaws.{part-next}
@@ -28,10 +27,10 @@ use Rattle.sheet_io.specs.Printing.{rows_text, start_printed, calls_printed, par
 
 -- ---- calls and parts
 
-given-printed : (sum : ℕ) (g : Given) (o : Outcome) → calls_printed sum (then_fed g o) ≡ calls_printed (checksum sum (given_text g)) o
+given-printed : (sum : ℕ) (g : Option Row) (o : Outcome) → calls_printed sum (then_fed g o) ≡ calls_printed (checksum sum (given_text g)) o
 unfolding and_then given_text checksum flatten
-given-printed sum Nothing o = refl
-given-printed sum (Ended row) o = ap (λ (s : ℕ). record { sheet = o.sheet; sum = s }) (checksum-append (row_text row) (rows_text o.rows) sum)
+given-printed sum None o = refl
+given-printed sum (Some row) o = ap (λ (s : ℕ). record { sheet = o.sheet; sum = s }) (checksum-append (row_text row) (rows_text o.rows) sum)
 
 -- a call for a part of which `from` bytes are read, and its text written
 pub call-printed : (sum : ℕ) (s : Sheet) (part : List ℕ) (from : ℕ) {f : Fed} {text : Line} {next : ℕ} → from < length part
@@ -55,10 +54,10 @@ rows_text-append [] ys = refl
 rows_text-append (row ∷ xs) ys = ap (λ (t : List ℕ). row_text row ++ t) (rows_text-append xs ys) ∙ sym (append_assoc (row_text row) (rows_text xs) (rows_text ys))
 
 -- the last row's text
-last-text : (g : Given) → rows_text (and_then g []) ≡ given_text g
+last-text : (g : Option Row) → rows_text (and_then g []) ≡ given_text g
 unfolding and_then given_text flatten
-last-text Nothing = refl
-last-text (Ended row) = append-nil (row_text row)
+last-text None = refl
+last-text (Some row) = append-nil (row_text row)
 
 rows-printed : (parts : List (List ℕ)) (p : Printed) → (end_printed (parts_printed p parts)).sum ≡ checksum p.sum (rows_text (rows_of_parts p.sheet parts))
 unfolding end_printed part_printed parts_printed rows_of_parts

@@ -17,7 +17,7 @@ const STDIN_FILENO: i32 = 0;
 const STDOUT_FILENO: i32 = 1;
 
 // The state after what was read, and the checksum of all bytes that were written.
-#[derive(Drop)]
+#[derive(Clone, Copy)]
 pub struct Printed {
     pub sheet: Sheet,
     pub sum: u64,
@@ -27,10 +27,7 @@ pub struct Printed {
 fn kept(length: u32) -> usize
     ensures { result ≡ min length 120 }
 {
-    if length < 120 {
-        return length as usize;
-    }
-    120
+    length.min(120) as usize
 }
 
 // Writes bytes if they are to be shown. A bool and no const parameter: the public calls below take it from callers that decide as they run.
@@ -45,30 +42,24 @@ fn write(shown: bool, sum: u64, text: Line) -> u64
     ensures { result ≡ checksum sum (line_text text) }
 {
     let n = kept(text.length);
-    let bytes = text.bytes;
-    show(shown, &bytes[..n]);
-    lines_calls::summed(sum, &bytes[..n])
+    show(shown, &text.bytes[..n]);
+    lines_calls::summed(sum, &text.bytes[..n])
 }
 
 // Feeds a part of the input until all of it is read, and writes what each call gives.
 pub fn feed_all(shown: bool, before: Printed, part: &[u8]) -> Printed
     ensures { result ≡ part_printed before part.now }
 {
-    let mut state = before.sheet;
-    let mut sum = before.sum;
+    let Printed { mut sheet, mut sum } = before;
     let mut from = 0;
-    // A while: it goes on by as many bytes as a feed read.
+    // A while: it goes on by what each call read, not by one.
     while from < part.len() {
-        let fed = script_calls::feed(state, &part[from..]);
-        let given = fed.given;
-        sum = write(shown, sum, script_calls::given_text(given));
-        state = fed.sheet;
+        let fed = script_calls::feed(sheet, &part[from..]);
+        sum = write(shown, sum, script_calls::given_text(fed.given));
+        sheet = fed.sheet;
         from += fed.read;
     }
-    Printed {
-        sheet: state,
-        sum: sum,
-    }
+    Printed { sheet, sum }
 }
 
 // No part is read, and the header is written.
@@ -77,10 +68,7 @@ pub fn begin(shown: bool) -> Printed
 {
     let sheet = script_calls::begin();
     let header = write(shown, 0, script_calls::header_text());
-    Printed {
-        sheet: sheet,
-        sum: header,
-    }
+    Printed { sheet, sum: header }
 }
 
 // Reads the input part by part. The count of parts only bounds the loop: 2^64 of them are never read.
@@ -89,14 +77,12 @@ fn read_all() -> Printed
 {
     let mut buffer = io::large_buffer();
     let mut printed = begin(true);
-    let mut left: u64 = 18446744073709551615;
-    while 0 < left {
+    for _ in 0..u64::MAX {
         let n = io::read_full(STDIN_FILENO, &mut buffer);
         if n == 0 {
             break;
         }
         printed = feed_all(true, printed, &buffer[..n]);
-        left -= 1;
     }
     printed
 }
@@ -105,13 +91,10 @@ fn read_all() -> Printed
 pub fn finish(shown: bool, before: Printed) -> Printed
     ensures { result ≡ end_printed before }
 {
-    let sheet = before.sheet;
-    let last = script_calls::finish(sheet);
-    let given = last.given;
-    let all = write(shown, before.sum, script_calls::given_text(given));
-    let end = last.sheet;
+    let last = script_calls::finish(before.sheet);
+    let all = write(shown, before.sum, script_calls::given_text(last.given));
     Printed {
-        sheet: end,
+        sheet: last.sheet,
         sum: all,
     }
 }

@@ -25,16 +25,16 @@ reads state bytes from {f} h e =
     (omega (arith, same, (script.reads state rest).1 (omega (arith, n, h))), omega (arith, same, (script.reads state rest).0, n, h))
 
 pub overflow_add-from : goal.overflow_add-from
-overflow_add-from c = record { fits = omega (arith, (reads c.loop-from.state c.args.part.now c.loop-from.from c.loop-from-test.true c.feed-fed.ensures).1, c.type_inv.part) }
+overflow_add-from c = record { fits = omega (arith, (reads c.loop-from.sheet c.args.part.now c.loop-from.from c.loop-from-test.true c.feed-fed.ensures).1, c.type_inv.part) }
 
 pub loop-from-smaller : goal.loop-from-smaller
-loop-from-smaller c = let r = reads c.loop-from.state c.args.part.now c.loop-from.from c.loop-from-test.true c.feed-fed.ensures in omega (arith, r.0, r.1)
+loop-from-smaller c = let r = reads c.loop-from.sheet c.args.part.now c.loop-from.from c.loop-from-test.true c.feed-fed.ensures in omega (arith, r.0, r.1)
 
 pub loop-from-preserved : goal.loop-from-preserved
 loop-from-preserved c =
     let l = c.loop-from in (
-      omega (arith, (reads c.loop-from.state c.args.part.now c.loop-from.from c.loop-from-test.true c.feed-fed.ensures).1),
-      call-printed l.sum l.state c.args.part.now l.from c.loop-from-test.true c.feed-fed.ensures c.given_text.ensures c.write-sum.ensures ∙ l.invariant.1,
+      omega (arith, (reads c.loop-from.sheet c.args.part.now c.loop-from.from c.loop-from-test.true c.feed-fed.ensures).1),
+      call-printed l.sum l.sheet c.args.part.now l.from c.loop-from-test.true c.feed-fed.ensures c.given_text.ensures c.write-sum.ensures ∙ l.invariant.1,
     )
 
 pub returns : goal.returns
@@ -42,4 +42,4 @@ unfolding part_fed part_printed checksum flatten
 returns c =
     let l = c.loop-from in
     let none : length c.args.part.now - l.from ≡ 0 = omega (arith, c.loop-from-test.false) in
-    ap (λ (k : ℕ). calls_printed l.sum (part_fed k l.state (drop l.from c.args.part.now))) (sym none) ∙ l.invariant.1
+    ap (λ (k : ℕ). calls_printed l.sum (part_fed k l.sheet (drop l.from c.args.part.now))) (sym none) ∙ l.invariant.1

@@ -9,7 +9,7 @@ use Rattle.sheet_io.proofs.feed_all.Given as goal
 
 abbrev pub invariant-loop-from : goal.invariant-loop-from
 invariant-loop-from l =
-    (l.from ≤ length l.part) × (calls_printed l.sum (part_fed (length l.part - l.from) l.state (drop l.from l.part)) ≡ calls_printed l.initial.sum (whole_part l.initial.state l.part))
+    (l.from ≤ length l.part) × (calls_printed l.sum (part_fed (length l.part - l.from) l.sheet (drop l.from l.part)) ≡ calls_printed l.initial.sum (whole_part l.initial.sheet l.part))
 
 abbrev pub decreases-loop-from : goal.decreases-loop-from
 decreases-loop-from l = length l.part - l.from

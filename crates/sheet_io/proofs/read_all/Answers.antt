@@ -1,10 +1,9 @@
--- `sheet_io::read_all` meets its contract, and ends: the count of parts falls. The loop's invariant: the buffer keeps its length, and some parts were read. Assumes nothing.
-use borrow.Author.Rules.{rules}
+-- `sheet_io::read_all` meets its contract: a part more is read. Assumes nothing.
 use Rattle.sheet_io.proofs.PrintLaws.{reading-none, reading-more}
 use Rattle.sheet_io.proofs.read_all.Goals as goal
 
-pub loop-left-init : goal.loop-left-init
-loop-left-init c = (search rules, reading-none c.begin-printed.ensures)
+pub loop-init : goal.loop-init
+loop-init c = reading-none c.begin-printed.ensures
 
-pub loop-left-preserved : goal.loop-left-preserved
-loop-left-preserved c = (search rules, reading-more _ c.loop-left.invariant.1 c.feed_all-printed.ensures)
+pub loop-preserved : goal.loop-preserved
+loop-preserved c = reading-more _ c.loop.invariant c.feed_all-printed.ensures
