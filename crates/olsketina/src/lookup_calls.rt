@@ -1,4 +1,4 @@
-// The two-table lookup, one call for each mode of the X table.
+// The two-table lookup, one call for each mode of the X table: twins, since the C interface names each.
 ghost use Rattle.std.specs.Prelude.{◌≡◌, length};
 ghost use Rattle.lut.specs.Calls.{run_answer, run_outputs};
 ghost use Rattle.olsketina.specs.Answers.{Answered};

@@ -32,6 +32,7 @@ fn slots_at(words: &[u32], at: usize) -> [Region; SLOTS]
     requires { at + slot_size * slot_count ≤ length words.now }
     ensures { result ≡ slots_at words.now at }
 {
+    // A for, and no array::from_fn: there it was left to prove that what the closure captures stays from call to call.
     let mut slots = [regions_calls::none(); SLOTS];
     for i in 0..SLOTS {
         slots[i] = region_at(words, at + SLOT_WORDS * i);
@@ -106,7 +107,7 @@ fn table_word(table: RegionTable, i: usize, old: u32) -> u32
     later[(i - LAYOUT_WORDS) % SLOT_WORDS]
 }
 
-// Writes a table's words from `at` on.
+// Writes a table's words from `at` on: word by word, as the definition does, since a word that says yes already stays.
 pub(crate) fn write_table(words: &mut [u32], at: usize, table: RegionTable)
     requires { at + table_size ≤ length words.old }
     ensures { words.new ≡ with_table table at words.old }

@@ -1,4 +1,4 @@
-// Settings as words: how many each has, and what they say.
+// Settings as words: how many each has, and what they say. Functions, and no From: settings and arrays are types of other crates.
 ghost use Rattle.std.specs.Prelude.{◌≡◌, ◌+◌, ◌≤◌, length};
 ghost use Rattle.olsketina.specs.Sizes.{layout_size};
 ghost use Rattle.olsketina.specs.Words.{layout_at, box_from, weights_from, image_from};

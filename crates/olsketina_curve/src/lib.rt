@@ -1,4 +1,5 @@
 // The camera curve for C from stored entries (include/olsketina.h), an archive of its own; olsketina_curve_computed can take its place.
+// A twin of olsketina_curve_computed: the C interface has two archives with the same names, and an archive is a crate.
 #![tactic(auto)]
 
 ghost use Rattle.std.specs.Prelude.{◌≡◌};

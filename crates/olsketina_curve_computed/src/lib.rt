@@ -1,4 +1,5 @@
 // The camera curve for C, computed (include/olsketina.h; change request K4): an archive in place of olsketina_curve, with no entries in it.
+// A twin of olsketina_curve: the C interface has two archives with the same names, and an archive is a crate.
 #![tactic(auto)]
 
 ghost use Rattle.std.specs.Prelude.{◌≡◌};

@@ -67,6 +67,7 @@ impl Painter {
     }
 
     // One component of `count` pixels side by side, the first's from byte `at` on, converted, from element `from` on. Returned: how many were held.
+    // The whole tile and the run's first element, and no slice of it: the definitions of a tile (`bytes_set`, `columns`) speak of one list.
     fn convert_run(
         &self,
         pixels: &[u8],
