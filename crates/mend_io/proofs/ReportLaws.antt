@@ -1,6 +1,6 @@
 -- A report printed a text full at a time: the lines that fit are the report's first, so that each time the next ones are printed. Assumes nothing.
 --     batch-rest                                        how many lines are left from a line on
---     batch-within, batch-more                          one text full: it ends within the report, and what is printed then
+--     batch-turn                                        one text full: it ends within the report, and what is printed then
 --     shown-all                                         all lines are printed
 --     shown-broken, shown-whole, shown-none             a report of which some lines are printed, all, or none
 --     gathered-lines, gathered-bytes, gathered-text     the lines that were gathered, and their text
@@ -23,7 +23,8 @@ use Rattle.mend_text.specs.declared.Gathered.{Gathered}
 use Rattle.mend_text.specs.Reports.{report_text, number_text, fitting, gathered, gather_text}
 use Rattle.mend_text.proofs.TextLaws.{report_text-append}
 use Rattle.mend_text.proofs.FitLaws.{lines-drop, fitting-first}
-use Rattle.mend_io.specs.Steps.{Shown}
+use Rattle.mend_io.specs.declared.printing.Batch.{Batch}
+use Rattle.mend_io.specs.Steps.{Batched, Shown}
 
 -- ---- the lines of a report
 
@@ -55,7 +56,7 @@ module _ (ps os : List ℕ) (from room : ℕ) (same : length ps ≡ length os) w
   pub batch-rest : length (lines (take (length ps - from) (drop from ps)) (take (length os - from) (drop from os))) ≡ length ps - from
   batch-rest = omega (arith, ap length rest, length-drop from (lines ps os), lines-length ps os same)
 
-  pub batch-within : from ≤ length ps → from + length batch ≤ length ps
+  batch-within : from ≤ length ps → from + length batch ≤ length ps
   batch-within h =
       omega
       (arith, batch-rest, fitting-le room (lines (take (length ps - from) (drop from ps)) (take (length os - from) (drop from os))))
@@ -66,13 +67,18 @@ module _ (ps os : List ℕ) (from room : ℕ) (same : length ps ≡ length os) w
       ∙ ap (λ (l : List Dirt). take from (lines ps os) ++ l)
       (ap (take (length batch)) (sym rest) ∙ fitting-take room (lines (take (length ps - from) (drop from ps)) (take (length os - from) (drop from os))))
 
-  pub batch-more : (before sum after n : ℕ) → sum ≡ checksum before (report_text (take from (lines ps os))) → n ≡ length batch → after ≡ checksum sum (report_text batch)
+  batch-more : (before sum after n : ℕ) → sum ≡ checksum before (report_text (take from (lines ps os))) → n ≡ length batch → after ≡ checksum sum (report_text batch)
       → after ≡ checksum before (report_text (take (from + n) (lines ps os)))
   batch-more before sum after n s e a =
       let first = report_text (take from (lines ps os)) in
       a ∙ ap (λ (k : ℕ). checksum k (report_text batch)) s
       ∙ sym (checksum-append first (report_text batch) before)
       ∙ ap (checksum before) (sym (report_text-append (take from (lines ps os)) batch) ∙ ap report_text (sym batch-next) ∙ ap (λ (k : ℕ). report_text (take (from + k) (lines ps os))) (sym e))
+
+  -- a text full was printed behind the first lines
+  pub batch-turn : (before sum : ℕ) {b : Batch} → from ≤ length ps → sum ≡ checksum before (report_text (take from (lines ps os))) → Batched sum batch b
+      → (from + b.lines ≤ length ps) × (b.sum ≡ checksum before (report_text (take (from + b.lines) (lines ps os))))
+  batch-turn before sum {b} h s printed = (omega (arith, printed.counted, batch-within h), batch-more before sum b.sum b.lines s printed.counted printed.text)
 
 pub shown-all : (ps os : List ℕ) (from : ℕ) → length ps ≡ length os → length ps ≤ from → take from (lines ps os) ≡ lines ps os
 shown-all ps os from same h = take_all from (lines ps os) (omega (arith, lines-length ps os same))
