@@ -84,6 +84,7 @@ fn check(layout: CubeLayout, size: u64) -> Answer
 fn length_of(from: &File) -> Option<u64> {
     let mut buffer = io::large_buffer();
     let mut seen: u64 = 0;
+    // Beside contents_of of mend_cases, which sums too: one function for both would take a closure with a contract for each part, which is no shorter.
     // A while: it ends by the length seen, which the next part may not pass: the edit `length_wraps` turns that bound.
     while seen < 18446744073709486080 {
         let n = read_part(from, &mut buffer)?;

@@ -45,6 +45,7 @@ impl Report<'_> {
 }
 
 // Bytes that are all padding: each that is not zero is reported, and becomes zero.
+// first, from and to stay numbers: the laws count bytes from the part's first one (Goes, Done), and a slice would need them again for a middle piece.
 fn clear_each(first: u64, from: usize, to: usize, part: &mut [u8], report: &mut Report)
     requires { HasRoom first from to part.old report.old }
     ensures { Mends (λ (x : ℕ). true) first from to part.old report.old part.new report.new }
