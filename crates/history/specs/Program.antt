@@ -1,6 +1,6 @@
 -- A list of calls, and what the program does at each: the promises of `begin`, `place`, `edit`, `read`, `release` and `paint` cite these steps, and the
 -- fold goes from one to the next (scope paper, "The plain picture"; change requests K1, K3, K5). Assumes nothing.
-use Rattle.std.specs.Prelude.{ℕ, List, [], ◌∷◌, length, ℤ}
+use Rattle.std.specs.Prelude.{ℕ, List, [], ◌∷◌, length, ℤ, Option, Some, None}
 pub use Rattle.elements.specs.Values.{SixteenBit}
 use Rattle.refusal.specs.Codes.{answer_of, quantity_value}
 use Rattle.refusal.specs.Checks.{leaves, Answer, Quantity}
@@ -39,9 +39,14 @@ Lends_sixteen_bit [] = Unit {0}
 Lends_sixteen_bit (c ∷ calls) = SixteenBit (lends c) × Lends_sixteen_bit calls
 
 -- what a call gives beside its answer: an accepted painting how many components were held at a limit, every other call no value
-pub data Value : Type 0 where
-  none : Value
-  held : ℕ → Value
+abbrev pub Value : Type 0
+Value = Option ℕ
+
+abbrev pub none : Value
+none = None
+
+abbrev pub held : ℕ → Value
+held n = Some n
 
 pub record Reply : Type 0 where
   pub answer : Answer

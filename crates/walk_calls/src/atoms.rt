@@ -5,7 +5,7 @@ ghost use Rattle.elements.specs.Lists.{tabulate};
 ghost use Rattle.columns.specs.Columns.{bytes_set};
 ghost use Rattle.walk.specs.Walks.{atom_elements, atom_byte};
 
-// Bytes of an element.
+// Bytes of an element. Not by elements::element_bytes, of 32 bits: any number of 64 bits is a walk's precision.
 fn size(precision: u64) -> usize
     ensures { result ≡ element_bytes precision }
 {
