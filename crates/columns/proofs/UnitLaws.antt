@@ -59,6 +59,11 @@ pair-rows (suc (suc (suc e))) plane low high = absurd (not-suc-le-zero (le_of_su
 pub plane-le : (e plane : ℕ) → 1 ≤ e → e ≤ 2 → plane ≤ (3 - e) * plane
 plane-le e plane low high = ⊎_elim (λ h. omega arith) (λ h. omega arith) (pair-rows e plane low high)
 
+-- from a unit's elements to the next unit's
+pub step_of : (e plane step : ℕ) → 1 ≤ e → e ≤ 2 → ((e ≡ 1) × (step ≡ 2 * plane)) ⊎ ((e ≡ 1 → ⊥) × (step ≡ plane)) → step ≡ (3 - e) * plane
+step_of e plane step low high (inl w) = ⊎_elim (λ h. omega (arith, w.1, h.1)) (λ h. absurd (omega (arith, w.0, h.0))) (pair-rows e plane low high)
+step_of e plane step low high (inr w) = ⊎_elim (λ h. absurd (w.0 h.0)) (λ h. omega (arith, w.1, h.1)) (pair-rows e plane low high)
+
 -- ---- units
 
 pub unit-one : (source : ℕ → ℤ) (at plane : ℕ) → column_unit 1 source at plane 0 0 ≡ byte_of (source at) 0 + 256 * byte_of (source (at + plane)) 0

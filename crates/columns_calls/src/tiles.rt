@@ -30,7 +30,12 @@ pub(crate) fn join<const UNITS: usize>(
     ensures kept { length tile.new ≡ 256 }
     ensures joined { (m : ℕ) → m < UNITS * count → get_or tile.new m 0 ≡ column_unit place.size.bytes (listed elements.now) place.from place.plane (m / UNITS) (m % UNITS) }
 {
-    let step = (3 - place.size.bytes) as usize * place.plane;
+    // Two planes or one, chosen: multiplied out, the built loop begins with a product for each row, which strips of few columns feel.
+    let step = if place.size.bytes == 1 {
+        2 * place.plane
+    } else {
+        place.plane
+    };
     for i in 0..count {
         for j in 0..UNITS {
             let at = place.from + i + j * step;
