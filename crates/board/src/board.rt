@@ -1,6 +1,7 @@
 // The board: what lines lent and set, and what each command does with it.
-use crate::calls::{
-    convert, print_answered, print_entry, print_owner, print_quantity, print_value,
+use crate::answers::{
+    print_alone, print_answer, print_converted, print_entry, print_owner, print_quantity,
+    print_value,
 };
 use crate::commands::{Command, ListName};
 use crate::line::{Line, Unmade};
@@ -8,10 +9,9 @@ use crate::lists::{Lists, tell_left};
 use crate::lookup::{NO_COUNTERS, NO_SETTINGS};
 use crate::numbers::Numbers;
 use crate::parts::Parts;
-use crate::print::{end_line, print_answer, print_line_number, print_text};
+use crate::print::{end_line, print_line_number, print_text};
 use crate::source::Source;
 use crate::{lookup, mended, mending, paint, scan, sheet};
-use camera::Ready;
 use lut::{Counters, LutSettings, XMode};
 use refusal::Answer;
 use regions::RegionTable;
@@ -100,8 +100,7 @@ impl<'a> Board<'a> {
     }
 
     // `set element i v`.
-    fn set_element(&mut self, numbers: Numbers) -> Result<(), Unmade> {
-        let mut n = numbers;
+    fn set_element(&mut self, mut n: Numbers) -> Result<(), Unmade> {
         let i = n.index();
         let v = n.short();
         let place = self
@@ -245,7 +244,7 @@ impl<'a> Board<'a> {
             }
             Command::Desk => {
                 self.table = regions_calls::empty(n.cube_layout());
-                print_answered(number, Answer::Accepted);
+                print_alone(number, Ok(()));
             }
             Command::Place => {
                 let outcome = regions_calls::place(
@@ -255,23 +254,20 @@ impl<'a> Board<'a> {
                     n.rectangle(),
                 );
                 self.table = outcome.table;
-                print_answered(number, outcome.answer);
+                print_alone(number, outcome.answer);
             }
             Command::HandSlot => {
                 // a slot above 15 changes nothing
                 if let Some(slot) = self.table.slots.get_mut(n.index()) {
                     *slot = n.region();
                 }
-                print_answered(number, Answer::Accepted);
+                print_alone(number, Ok(()));
             }
             Command::HandLayout => {
                 self.table.layout = n.cube_layout();
-                print_answered(number, Answer::Accepted);
+                print_alone(number, Ok(()));
             }
-            Command::PixelSetting => print_answered(
-                number,
-                pixels_calls::setting(n.pixel_setting()),
-            ),
+            Command::PixelSetting => print_alone(number, pixels_calls::setting(n.pixel_setting())),
             Command::Position => print_value(
                 number,
                 cube::position(n.cube_layout(), n.natural(), n.natural(), n.natural()),
@@ -296,7 +292,10 @@ impl<'a> Board<'a> {
                 number,
                 regions_calls::count(self.table, n.natural(), n.natural()),
             ),
-            Command::Convert => convert(number, n),
+            Command::Convert => print_converted(
+                number,
+                quantize::convert(n.signed(), n.short(), n.short(), n.natural(), n.natural()),
+            ),
             Command::Whose => print_owner(number, layout_calls::whose(n.cube_layout(), n.wide())),
             Command::CurveX => print_entry(number, curve_stored::x_entry(n.natural())),
             Command::CurveY => print_entry(number, curve_stored::y_entry(n.natural())),
@@ -319,19 +318,9 @@ impl<'a> Board<'a> {
             },
             Command::Counters => self.counters = n.counters(),
             Command::Ready => {
-                let answer = match camera::ready_made(
-                    n.signed(),
-                    n.choice(),
-                    n.choice(),
-                    n.choice(),
-                ) {
-                    Ready::Setting(settings) => {
-                        self.settings = settings;
-                        Answer::Accepted
-                    }
-                    Ready::Refused(r, at) => Answer::Refused(r, at),
-                };
-                print_answered(number, answer);
+                let ready = camera::ready_made(n.signed(), n.choice(), n.choice(), n.choice());
+                self.settings = ready.unwrap_or(self.settings);
+                print_alone(number, ready);
             }
             Command::Lookup => self.counters = lookup::run(
                 number,

@@ -180,9 +180,8 @@ impl<'a, T: Member> List<'a, T> {
     }
 
     // Lends so many members of a source, from an index on, if there is room.
-    fn draw(&mut self, from: usize, n: usize, source: Source) -> Result<(), Unmade> {
+    fn draw(&mut self, from: usize, n: usize, mut source: Source) -> Result<(), Unmade> {
         let end = from.checked_add(n).ok_or(Unmade::Unreadable)?;
-        let mut source = source;
         for place in self.room.get_mut(from..end).ok_or(Unmade::Unreadable)? {
             *place = T::of_word(source.next());
         }

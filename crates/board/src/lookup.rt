@@ -1,8 +1,9 @@
 // The lookup: its run, and what is printed of it. The elements that are lent are the entries of X and then those of Y.
+use crate::answers::print_answer;
 use crate::line::Unmade;
 use crate::lists::tell;
 use crate::numbers::Numbers;
-use crate::print::{print_answer, print_natural};
+use crate::print::print_natural;
 use lut::{Counters, LutSettings, Slope, Table, XMode, XSettings, YSettings};
 
 // The most outputs of a run.
@@ -43,14 +44,13 @@ pub const NO_COUNTERS: Counters = Counters {
 // `lookup X M v`: a run over M outputs, at most 65536, which are v before it; the first X entries are X's. Prints its answer, the counters and the outputs, or their checksum; the counters after it.
 pub fn run(
     line: u64,
-    numbers: Numbers,
+    mut n: Numbers,
     sums: bool,
     settings: LutSettings,
     counters: Counters,
     entries: &[i16],
     samples: &[i32],
 ) -> Result<Counters, Unmade> {
-    let mut n = numbers;
     let split = n.index();
     let m = n.index();
     let mut outputs = [n.natural().cast_signed(); MOST_OUTPUTS];

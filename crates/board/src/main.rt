@@ -2,8 +2,8 @@
 // can be compared with the library's (docs/TESTING.md has the commands).
 #![tactic(auto)]
 
+mod answers;
 mod board;
-mod calls;
 mod commands;
 mod line;
 mod lists;

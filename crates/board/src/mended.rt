@@ -1,11 +1,11 @@
 // A whole file mended: the buffer in parts, held against the whole in one part (change request K8).
 ghost use Rattle.std.specs.Prelude.{◌<◌};
 
+use crate::answers::print_answer;
 use crate::line::Unmade;
 use crate::lists::{Sum, sum_of, tell};
 use crate::numbers::Numbers;
-use crate::print::{print_answer, print_natural, print_same};
-use crate::scan::is_same;
+use crate::print::{print_natural, print_same};
 use layout::CubeLayout;
 use refusal::{Answer, Quantity};
 
@@ -13,7 +13,7 @@ use refusal::{Answer, Quantity};
 const MOST_BYTES: usize = 65536;
 
 // What the parts of a file came to: the last refusal, if any; how many bytes were reported; a checksum of the joined report.
-#[derive(Clone, Copy)]
+#[derive(Clone, Copy, PartialEq)]
 struct Mended {
     answer: Answer,
     count: u64,
@@ -29,11 +29,6 @@ impl Mended {
             sum: Sum::EMPTY,
         }
     }
-
-    // Whether another mending came to the same.
-    fn is_as(self, other: Mended) -> bool {
-        is_same(self.answer, other.answer) && self.count == other.count && self.sum == other.sum
-    }
 }
 
 // Room for a report: positions and old values.
@@ -45,10 +40,9 @@ struct Report<'a> {
 
 impl Report<'_> {
     // What the parts came to with one more, by its answer and this report.
-    fn joined(&self, before: Mended, given: Quantity) -> Mended {
-        let mut m = before;
+    fn joined(&self, mut m: Mended, given: Quantity) -> Mended {
         match given {
-            Quantity::Is(count) => {
+            Ok(count) => {
                 for (&position, &old) in self
                     .positions
                     .iter()
@@ -59,7 +53,7 @@ impl Report<'_> {
                 }
                 m.count = m.count.wrapping_add(count);
             }
-            Quantity::Refused(r, at) => m.answer = Answer::Refused(r, at),
+            Err(fault) => m.answer = Err(fault),
         }
         m
     }
@@ -92,7 +86,7 @@ impl Report<'_> {
     {
         let len = file.len() as u64;
         let mut at: u64 = 0;
-        let mut m = self.with_part(layout, Mended::nothing(Answer::Accepted), 0, len, &mut []);
+        let mut m = self.with_part(layout, Mended::nothing(Ok(())), 0, len, &mut []);
         for part in file.chunks_mut(size) {
             let n = part.len() as u64;
             m = self.with_part(layout, m, at, len, part);
@@ -113,21 +107,20 @@ impl Report<'_> {
         let whole = self.in_parts(layout, MOST_BYTES, file);
         let after = sum_of(file);
         self.write_back(whole.count, file);
-        whole.is_as(parts) && after == sum_of(mended) && sum_of(file) == before
+        whole == parts && after == sum_of(mended) && sum_of(file) == before
     }
 
     // Whether mending a mended file has the same answer, reports nothing and leaves its checksum.
     fn is_clean(&mut self, layout: CubeLayout, answer: Answer, file: &mut [u8]) -> bool {
         let before = sum_of(file);
         let again = self.in_parts(layout, MOST_BYTES, file);
-        again.is_as(Mended::nothing(answer)) && before == sum_of(file)
+        again == Mended::nothing(answer) && before == sum_of(file)
     }
 }
 
 // `mend file W.. size`: the buffer is a whole file, of at most 65536 bytes. Mends it in parts; prints the answer, the number of bytes that were reported, the checksum of the
 // report, and whether the whole in one part and the mended file do as they must; then the buffer, or its checksum.
-pub fn file(line: u64, numbers: Numbers, sums: bool, buffer: &mut [u8]) -> Result<(), Unmade> {
-    let mut n = numbers;
+pub fn file(line: u64, mut n: Numbers, sums: bool, buffer: &mut [u8]) -> Result<(), Unmade> {
     let layout = n.cube_layout();
     let size = n.index();
     let mut other = [0; MOST_BYTES];

@@ -1,5 +1,5 @@
 // Mending: one call, with the buffer as a part of a file (change request K8).
-use crate::calls::print_quantity;
+use crate::answers::print_quantity;
 use crate::line::Unmade;
 use crate::lists::{show, sum_of, tell_left};
 use crate::numbers::Numbers;
@@ -10,8 +10,7 @@ pub const MOST_PLACES: usize = 65536;
 
 // `mend part W.. first length P O v`: one call, over P places for positions and O for old values, which are v before it. Prints its answer; then the places of its report and the buffer, or
 // their checksums.
-pub fn part(line: u64, numbers: Numbers, sums: bool, buffer: &mut [u8]) -> Result<(), Unmade> {
-    let mut n = numbers;
+pub fn part(line: u64, mut n: Numbers, sums: bool, buffer: &mut [u8]) -> Result<(), Unmade> {
     let layout = n.cube_layout();
     let first = n.wide();
     let length = n.wide();

@@ -201,11 +201,11 @@ impl Numbers {
     }
 
     // 0 names X, 1 names Y, any other none.
-    pub fn choice(&mut self) -> camera::Choice {
+    pub fn choice(&mut self) -> Option<Table> {
         match self.natural() {
-            0 => camera::Choice::Named(Table::X),
-            1 => camera::Choice::Named(Table::Y),
-            _ => camera::Choice::Unnamed,
+            0 => Some(Table::X),
+            1 => Some(Table::Y),
+            _ => None,
         }
     }
 

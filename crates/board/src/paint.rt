@@ -5,13 +5,12 @@ use regions::RegionTable;
 
 // Puts the low bytes of the elements in the pixel buffer, and paints with as many of it: slot and id, a pixel setting, a conversion.
 fn paint(
-    numbers: Numbers,
+    mut n: Numbers,
     table: RegionTable,
     elements: &[i16],
     pixels: &mut [u8],
     buffer: &mut [u8],
 ) -> PaintOutcome {
-    let mut n = numbers;
     for (pixel, &element) in pixels.iter_mut().zip(elements) {
         *pixel = (element.cast_unsigned() & 0xff) as u8;
     }
@@ -28,12 +27,7 @@ fn paint(
 }
 
 // `paint slot id P.. offset SF shift`.
-pub fn run(
-    numbers: Numbers,
-    table: RegionTable,
-    elements: &[i16],
-    buffer: &mut [u8],
-) -> PaintOutcome {
+pub fn run(n: Numbers, table: RegionTable, elements: &[i16], buffer: &mut [u8]) -> PaintOutcome {
     let mut pixels = [0; 307200];
-    paint(numbers, table, elements, &mut pixels, buffer)
+    paint(n, table, elements, &mut pixels, buffer)
 }

@@ -11,7 +11,7 @@ impl Parts {
 
     pub const BUFFER: Parts = Parts(2);
     // both of these
-    pub const PACKED: Parts = Parts(3);
+    pub const PACKED: Parts = Parts(Parts::ELEMENTS.0 | Parts::BUFFER.0);
 
     pub const SAMPLES: Parts = Parts(4);
     // the region table
@@ -23,7 +23,7 @@ impl Parts {
 
     pub const PRIORITIES: Parts = Parts(64);
 
-    pub const SETTINGS: Parts = Parts(112);
+    pub const SETTINGS: Parts = Parts(Parts::X.0 | Parts::Y.0 | Parts::PRIORITIES.0);
 
     pub const COUNTERS: Parts = Parts(128);
 

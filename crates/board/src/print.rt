@@ -1,5 +1,4 @@
 // What is printed.
-use refusal::Answer;
 
 // The descriptor of standard output.
 const STDOUT_FILENO: i32 = 1;
@@ -52,13 +51,6 @@ pub fn print_natural(n: u64) {
 pub fn print_signed(n: i64) {
     print(b" ");
     print_member(n);
-}
-
-// Line number, refusal code and fault index.
-pub fn print_answer(line: u64, a: Answer) {
-    print_line_number(line);
-    print_natural(u64::from(refusal::answer_code(a)));
-    print_natural(refusal::fault_index(a) as u64);
 }
 
 // Whether all is as it must be.

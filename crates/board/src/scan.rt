@@ -1,12 +1,11 @@
 // A walk over the atoms of a cube in scan order, each written where it belongs, and a step of any walk.
+use crate::answers::print_answer;
 use crate::lists::{Sum, show, sum_of, tell_left};
 use crate::numbers::Numbers;
-use crate::print::{
-    end_line, print, print_answer, print_line_number, print_natural, print_position, print_same,
-};
+use crate::print::{end_line, print, print_natural, print_position, print_same};
 use layout::CubeLayout;
 use refusal::Answer;
-use walk::{NextAtom, Started, Walk};
+use walk::Walk;
 
 // The greatest buffer's bytes: no walk over a cube in it has more atoms.
 const MOST_ATOMS: usize = 2457600;
@@ -25,19 +24,7 @@ impl Iterator for Atoms<'_> {
         let step = walk_calls::step(self.walk, self.elements);
         self.walk = step.walk;
         let bytes = step.bytes;
-        match step.atom {
-            NextAtom::At(position) => Some((position, bytes)),
-            NextAtom::NoneLeft => None,
-        }
-    }
-}
-
-// The walk that a start gives, or its refusal.
-fn first(layout: CubeLayout, elements: &[i16], len: usize) -> (Answer, Walk) {
-    match walk_calls::start(layout, elements, len) {
-        Started::Walking(walk) => (Answer::Accepted, walk),
-        // The walk of zeros, which has no atom.
-        Started::Refused(r, at) => (Answer::Refused(r, at), Numbers::new().walk()),
+        step.atom.map(|position| (position, bytes))
     }
 }
 
@@ -74,23 +61,20 @@ fn print_positions(atoms: Atoms<'_>, count: usize) {
     }
 }
 
-// Whether two answers are the same.
-pub fn is_same(a: Answer, b: Answer) -> bool {
-    refusal::answer_code(a) == refusal::answer_code(b)
-        && refusal::fault_index(a) == refusal::fault_index(b)
-}
-
 // Whether packing the elements has the answer given, and leaves the checksum of the buffer.
 fn packs_same(layout: CubeLayout, answer: Answer, elements: &[i16], buffer: &mut [u8]) -> bool {
     let before = sum_of(buffer);
     let packed = cube::pack(layout, elements, buffer);
-    is_same(answer, packed) && sum_of(buffer) == before
+    packed == answer && sum_of(buffer) == before
 }
 
 // `walk W..`: the atoms of a cube, each written into the buffer; then one step more, and the same elements packed. Prints the answer, the number of atoms, the checksum of
 // their positions, and whether packing did the same; then the positions of the atoms and the buffer, or checksums.
 pub fn run(line: u64, layout: CubeLayout, sums: bool, elements: &[i16], buffer: &mut [u8]) {
-    let (answer, walk) = first(layout, elements, buffer.len());
+    let started = walk_calls::start(layout, elements, buffer.len());
+    let answer = started.map(|_| ());
+    // The walk of zeros has no atom.
+    let walk = started.unwrap_or(Numbers::new().walk());
     let mut atoms = Atoms { walk, elements };
     let (count, sum) = write_atoms(&mut atoms, buffer);
     let ended = atoms.next().is_none();
@@ -111,13 +95,13 @@ pub fn run(line: u64, layout: CubeLayout, sums: bool, elements: &[i16], buffer: 
 // `step w w ..`: one step of the walk of twelve numbers. The answer is always accepted.
 pub fn step(line: u64, walk: Walk, elements: &[i16]) {
     let made = walk_calls::step(walk, elements);
-    print_line_number(line);
+    print_answer(line, Ok(()));
     match made.atom {
-        NextAtom::At(position) => {
-            print(b" 0 0 at");
+        Some(position) => {
+            print(b" at");
             print_natural(position);
         }
-        NextAtom::NoneLeft => print(b" 0 0 none left"),
+        None => print(b" none left"),
     }
     print_walk(made.walk);
     end_line();
