@@ -3,12 +3,12 @@ ghost use Rattle.std.specs.Prelude.{◌+◌, ◌≤◌, length};
 
 use crate::print::{end_line, print, print_line_number, print_natural};
 
-// The checksum of what a sheet prints, given in two parts with a call for nothing between them; it is printed if `SHOWN`.
-fn in_parts<const SHOWN: bool>(first: &[u8], second: &[u8]) -> u64 {
-    let mut printed = sheet_io::feed_all::<SHOWN>(sheet_io::begin::<SHOWN>(), first);
+// The checksum of what a sheet prints, given in two parts with a call for nothing between them; it is printed if `shown`.
+fn in_parts(shown: bool, first: &[u8], second: &[u8]) -> u64 {
+    let mut printed = sheet_io::feed_all(shown, sheet_io::begin(shown), first);
     printed.sheet = script_calls::feed(printed.sheet, b"").sheet;
-    let rest = sheet_io::feed_all::<SHOWN>(printed, second);
-    sheet_io::finish::<SHOWN>(rest).sum
+    let rest = sheet_io::feed_all(shown, printed, second);
+    sheet_io::finish(shown, rest).sum
 }
 
 // The first of so many cuts, from the beginning on, that prints something else than what has the checksum `whole`.
@@ -16,7 +16,7 @@ fn first_difference(input: &[u8], cuts: usize, whole: u64) -> Option<usize>
     requires { cuts ≤ length input.now + 1 }
 {
     for k in 0..cuts {
-        if in_parts::<false>(&input[..k], &input[k..]) != whole {
+        if in_parts(false, &input[..k], &input[k..]) != whole {
             return Some(k);
         }
     }
@@ -32,7 +32,7 @@ fn cut_count(len: usize) -> usize
 
 // Runs the sheet as the sheet program does; then prints the line's number and the number of cuts that print the same, or the first index of a cut that does not.
 pub fn run(line: u64, input: &[u8]) {
-    let whole = in_parts::<true>(input, b"");
+    let whole = in_parts(true, input, b"");
     let cuts = cut_count(input.len());
     let difference = first_difference(input, cuts, whole);
     print_line_number(line);
