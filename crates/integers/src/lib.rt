@@ -4,12 +4,19 @@
 ghost use Rattle.std.specs.Prelude.{◌≡◌};
 ghost use Rattle.integers.specs.Saturate.{saturate, beyond};
 
-// `z` where it lies in `low..=high`, else the limit that it passed. Not `clamp`, which wants low <= high: this promises an answer at any limits.
+// `z` where it lies in `low..=high`, else the limit that it passed. Not `clamp`, which wants low <= high: this promises an answer at any limits. No `min` behind the first test: tried, and
+// LLVM compiles it wrongly where the answer is cast to an i32.
 #[tactic(auto, unfolding(crate::specs::Saturate::saturate))]
 pub fn saturate(z: i64, low: i64, high: i64) -> i64
     ensures { result ≡ saturate low high z }
 {
-    if z < low { low } else { z.min(high) }
+    if z < low {
+        return low;
+    }
+    if high < z {
+        return high;
+    }
+    z
 }
 
 // `z` lies beyond a limit: it is not in `low..=high`.
