@@ -1,4 +1,4 @@
-// What is printed.
+// What is printed, by `io`: a write that fails is passed over, and `println!` would need the runtime and a Result at every place.
 
 // The descriptor of standard output.
 const STDOUT_FILENO: i32 = 1;
