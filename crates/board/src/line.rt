@@ -33,7 +33,7 @@ enum Phase {
     Damaged(Option<&'static Row>),
 }
 
-// A name, of at most 24 letters. Letters and their number, and no String: there is no heap.
+// A name, of at most 24 letters.
 #[derive(Clone, Copy)]
 struct Name {
     letters: [u8; 24],

@@ -1,4 +1,4 @@
-// What is printed, by `io`: a write that fails is passed over, and `println!` would need the runtime and a Result at every place.
+// What is printed.
 
 // The descriptor of standard output.
 const STDOUT_FILENO: i32 = 1;
