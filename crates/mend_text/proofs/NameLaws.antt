@@ -4,6 +4,7 @@
 --     names-first, names-second, names-both    whether two lines are different names
 --     named-no, named-yes, frameless            what two lines behind a record ask for
 --     no_first, no_second                      where one of them is no name
+--     stands                                   a part of a text stands in it
 use Prim.Native.Nat.{ℕ, zero, suc, ◌-◌, ◌≤◌, ◌<◌}
 use native.Mathlib.Omega.{arith}
 use native.Mathlib.Decide.{dec_le}
@@ -20,13 +21,16 @@ use Rattle.lines.specs.Texts.{split, fields_of, part_length, parts_behind, same_
 use Rattle.lines.proofs.SplitLaws.{part_length-le, split-first, parts_behind-end}
 use Rattle.records.specs.declared.Record.{Record}
 use Rattle.records.specs.declared.Record.TheVariants.{Frame, Stall, Cell, Leave}
-use Rattle.mend_text.specs.Requests.{unreadable, mending, is_name, with_names}
+use Rattle.mend_text.specs.Requests.{unreadable, mending, is_name, with_names, StandsIn}
 
 pub part_slice : (text : List ℕ) (a b : ℕ) → a ≤ b → take (b - a) (drop a text) ≡ slice a b text
 part_slice text zero b h = let e : b - 0 ≡ b = omega arith in ap (λ (k : ℕ). take k text) e
 part_slice [] (suc a) b h = rw (take-nil {A = ℕ} (b - suc a), take-nil {A = ℕ} b)
 part_slice (x ∷ text) (suc a) zero h = absurd (omega arith)
 part_slice (x ∷ text) (suc a) (suc b) h = let e : suc b - suc a ≡ b - a = omega arith in ap (λ (k : ℕ). take k (drop a text)) e ∙ part_slice text a b (omega arith)
+
+pub stands : (text name : List ℕ) (a b : ℕ) → a ≤ b → b ≤ length text → name ≡ take (b - a) (drop a text) → StandsIn text name
+stands text name a b h within part = record { first = a; behind = b; ordered = h; within = within; part = part ∙ part_slice text a b h }
 
 -- ---- a name
 

@@ -1,6 +1,7 @@
 -- The mending program's input (change request K8): the scope paper's `frame` line, then two different file names, one a line, by the paper's line
 -- rules. Anything else is unreadable. Assumes nothing.
-use Rattle.std.specs.Prelude.{ℕ, Bool, cond, not, ◌&&◌, List, [], ◌∷◌, leb, eqb, length, Option, None, Some}
+use Rattle.std.specs.Prelude.{ℕ, ◌≤◌, ◌≡◌, Bool, cond, not, ◌&&◌, List, [], ◌∷◌, leb, eqb, length, Option, None, Some}
+use Rattle.std.proofs.Math.Seq.{slice}
 use Rattle.layout.specs.declared.CubeLayout.{CubeLayout}
 use Rattle.lines.specs.Texts.{longest, fields_of, lines_of, same_text}
 use Rattle.records.specs.declared.Record.{Record}
@@ -40,3 +41,16 @@ request_of text = by_lines (lines_of text)
 unfoldable pub meant : Option Names → Request
 meant None = unreadable
 meant (Some names) = mending names.layout names.first.now names.second.now
+
+-- a name stands in the text: it is the part from byte `first` to before byte `behind`
+pub record StandsIn (text name : List ℕ) : Type 0 where
+  pub first : ℕ
+  pub behind : ℕ
+  pub ordered : first ≤ behind
+  pub within : behind ≤ length text
+  pub part : name ≡ slice first behind text
+
+-- and the names stand in the text
+unfoldable pub Placed : List ℕ → Option Names → Type 0
+Placed text None = Unit {0}
+Placed text (Some names) = StandsIn text names.first.now × StandsIn text names.second.now

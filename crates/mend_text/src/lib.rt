@@ -1,11 +1,11 @@
 // The mending program's input and its text: a frame and two file names; the lines of a report (change request K8).
 #![tactic(auto)]
 
-ghost use Rattle.std.specs.Prelude.{◌+◌, ◌≤◌, ◌≡◌, not, ◌&&◌, length, drop};
+ghost use Rattle.std.specs.Prelude.{ℕ, ◌+◌, ◌≤◌, ◌≡◌, not, ◌&&◌, List, length, drop};
 ghost use Rattle.std.proofs.Math.Seq.{paste};
 ghost use Rattle.lines.specs.Texts.{part_length, same_text};
 ghost use Rattle.lines.specs.Collecting.{written};
-ghost use Rattle.mend_text.specs.Requests.{is_name, with_names, meant, request_of};
+ghost use Rattle.mend_text.specs.Requests.{is_name, with_names, meant, request_of, StandsIn, Placed};
 ghost use Rattle.mend_text.specs.Reports.{header, dirt_text, number_text, gathered, gather_text};
 
 use layout::CubeLayout;
@@ -52,7 +52,8 @@ fn are_names(first: &[u8], second: &[u8]) -> bool
 
 // A record, if the first line is one, and two lines behind it.
 fn with_names<'a>(item: Option<Record>, first: &'a [u8], second: &'a [u8]) -> Option<Names<'a>>
-    ensures { meant result ≡ with_names item first.now second.now }
+    ensures asked { meant result ≡ with_names item first.now second.now }
+    ensures placed { (text : List ℕ) → StandsIn text first.now → StandsIn text second.now → Placed text result }
 {
     if !are_names(first, second) {
         return None;
@@ -69,7 +70,8 @@ fn with_names<'a>(item: Option<Record>, first: &'a [u8], second: &'a [u8]) -> Op
 
 // Reads an input: a frame, and two different names.
 pub fn read_input(text: &[u8]) -> Option<Names>
-    ensures { meant result ≡ request_of text.now }
+    ensures asked { meant result ≡ request_of text.now }
+    ensures placed { Placed text.now result }
 {
     let a = line_end(text, 0);
     if a == text.len() {
