@@ -29,7 +29,7 @@ fn entry(last: u32, step: u32, i: u32) -> i16
     requires { last * step ≤ 268435456 }
     ensures { result ≡ curve_entry last step i }
 {
-    root(i.min(last) * step) as i16
+    root(general::least(i, last) * step) as i16
 }
 
 // The entries of a curve, from entry 0 on.

@@ -1,7 +1,7 @@
 // The camera curve from stored entries (scope paper, "Two tables"). `curve_computed` has the same calls with the same promises, and no entries.
 #![tactic(auto)]
 
-ghost use Rattle.std.specs.Prelude.{◌≡◌, ◌-◌, ◌<◌, min, get_or, pos};
+ghost use Rattle.std.specs.Prelude.{◌≡◌};
 ghost use Rattle.camera.specs.Curve.{curve_y, curve_x, y_table, x_table};
 
 mod tables;
@@ -20,24 +20,16 @@ pub fn x_table() -> [i16; 65]
     tables::X_CURVE
 }
 
-// Entry i of a table; past the last entry, the last.
-fn entry<const N: usize>(table: &[i16; N], i: u32) -> i16
-    requires { 0 < N }
-    ensures { result ≡ get_or table.now (min i (N - 1)) (pos 0) }
-{
-    table[(i as usize).min(N - 1)]
-}
-
 // Entry i of the Y curve; past the last entry, the last.
 pub fn y_entry(i: u32) -> i16
     ensures { result ≡ curve_y i }
 {
-    entry(&y_table(), i)
+    y_table()[general::least(i, 256) as usize]
 }
 
 // Entry j of the X curve; past the last entry, the last.
 pub fn x_entry(j: u32) -> i16
     ensures { result ≡ curve_x j }
 {
-    entry(&x_table(), j)
+    x_table()[general::least(j, 64) as usize]
 }

@@ -31,7 +31,7 @@ fn number_of(tensor: Tensor, index: Index) -> u64
     let first = kernel / group * group;
     let kernels = runs::group_kernels(layout, first);
     let begin = channel / 64 * 64;
-    let channels = runs::BLOCK.min(layout.channels - begin);
+    let channels = general::least(runs::BLOCK, layout.channels - begin);
     let pixel = row * layout.columns + column;
     let before = first * layout.channels + begin * kernels;
     let within = (pixel * kernels + kernel % group) * channels + channel % 64;

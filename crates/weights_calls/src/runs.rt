@@ -31,7 +31,7 @@ pub(crate) fn group_kernels(layout: WeightLayout, first: u32) -> u32
     requires { first < layout.kernels }
     ensures { result ≡ min (group_of layout) (layout.kernels - first) }
 {
-    group_size(layout.precision).min(layout.kernels - first)
+    general::least(group_size(layout.precision), layout.kernels - first)
 }
 
 // Channels of a run: those of one kernel, or where there is one block, of all kernels of the group.
@@ -56,7 +56,7 @@ pub(crate) fn run_columns(tensor: Tensor, run: Run) -> ColumnBlock
     let plane = pixels as usize;
     let kernels = group_kernels(layout, run.first);
     let channel = run.block * 64;
-    let channels = BLOCK.min(layout.channels - channel);
+    let channels = general::least(BLOCK, layout.channels - channel);
     let width = run_width(layout, kernels, channels);
     let from = ((run.first + run.kernel) * layout.channels + channel) as usize * plane;
     let number = (run.first * layout.channels + channel * kernels) as usize * plane

@@ -14,9 +14,9 @@ use Rattle.curve_computed.proofs.entry.Goals as goal
 small : (c : goal.After-root) → c.root.result ≤ 16384
 small c =
     let a = c.args in
-    let steps-le : c.min.result * a.step ≤ 268435456 =
-    omega (arith, mul-le-mul_right {m = c.min.result} {n = a.last} a.step (omega (arith, c.min.ensures, min-le_right a.i a.last)), c.requires) in
-    omega (arith, c.root.ensures, root-le (c.min.result * a.step) 16384 (omega (arith, steps-le)))
+    let steps-le : c.least.result * a.step ≤ 268435456 =
+    omega (arith, mul-le-mul_right {m = c.least.result} {n = a.last} a.step (omega (arith, c.least.ensures, min-le_right a.i a.last)), c.requires) in
+    omega (arith, c.root.ensures, root-le (c.least.result * a.step) 16384 (omega (arith, steps-le)))
 
 pub overflow_cast-result : goal.overflow_cast-result
 overflow_cast-result c = record { sfits = omega (arith, small c) }
@@ -24,4 +24,4 @@ overflow_cast-result c = record { sfits = omega (arith, small c) }
 pub returns : goal.returns
 unfolding curve_entry
 returns c = let a = c.args in
-    to_z_pos w16 (omega (arith, small c)) ∙ ap pos (c.root.ensures ∙ ap (λ (k : ℕ). root (k * a.step)) c.min.ensures)
+    to_z_pos w16 (omega (arith, small c)) ∙ ap pos (c.root.ensures ∙ ap (λ (k : ℕ). root (k * a.step)) c.least.ensures)

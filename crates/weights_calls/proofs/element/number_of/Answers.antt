@@ -47,32 +47,32 @@ nonzero_div-first c = omega (arith, some c.args.tensor.layout.precision c.group_
 
 pub overflow_mul-pixel : goal.overflow_mul-pixel
 overflow_mul-pixel c =
-    let p = pieces c.args.tensor.layout c.args.tensor.sizes c.requires c.group_size-group.ensures c.group_kernels-kernels.ensures c.min-channels.ensures in
+    let p = pieces c.args.tensor.layout c.args.tensor.sizes c.requires c.group_size-group.ensures c.group_kernels-kernels.ensures c.least-channels.ensures in
     omega (arith, p.pixel_le)
 
 pub overflow_add-pixel : goal.overflow_add-pixel
 overflow_add-pixel c =
-    let p = pieces c.args.tensor.layout c.args.tensor.sizes c.requires c.group_size-group.ensures c.group_kernels-kernels.ensures c.min-channels.ensures in
+    let p = pieces c.args.tensor.layout c.args.tensor.sizes c.requires c.group_size-group.ensures c.group_kernels-kernels.ensures c.least-channels.ensures in
     omega (arith, p.pixel_le)
 
 pub overflow_mul-before : goal.overflow_mul-before
 overflow_mul-before c =
-    let p = pieces c.args.tensor.layout c.args.tensor.sizes c.requires c.group_size-group.ensures c.group_kernels-kernels.ensures c.min-channels.ensures in
+    let p = pieces c.args.tensor.layout c.args.tensor.sizes c.requires c.group_size-group.ensures c.group_kernels-kernels.ensures c.least-channels.ensures in
     omega (arith, groups-le p)
 
 pub overflow_mul-before-2 : goal.overflow_mul-before-2
 overflow_mul-before-2 c =
-    let p = pieces c.args.tensor.layout c.args.tensor.sizes c.requires c.group_size-group.ensures c.group_kernels-kernels.ensures c.min-channels.ensures in
+    let p = pieces c.args.tensor.layout c.args.tensor.sizes c.requires c.group_size-group.ensures c.group_kernels-kernels.ensures c.least-channels.ensures in
     omega (arith, blocks-le p)
 
 pub overflow_add-before : goal.overflow_add-before
 overflow_add-before c =
-    let p = pieces c.args.tensor.layout c.args.tensor.sizes c.requires c.group_size-group.ensures c.group_kernels-kernels.ensures c.min-channels.ensures in
+    let p = pieces c.args.tensor.layout c.args.tensor.sizes c.requires c.group_size-group.ensures c.group_kernels-kernels.ensures c.least-channels.ensures in
     omega (arith, groups-le p, blocks-le p)
 
 pub overflow_mul-within : goal.overflow_mul-within
 overflow_mul-within c =
-    let p = pieces c.args.tensor.layout c.args.tensor.sizes c.requires c.group_size-group.ensures c.group_kernels-kernels.ensures c.min-channels.ensures in
+    let p = pieces c.args.tensor.layout c.args.tensor.sizes c.requires c.group_size-group.ensures c.group_kernels-kernels.ensures c.least-channels.ensures in
     omega (arith, pixel-kernels-le p)
 
 pub nonzero_rem-within : goal.nonzero_rem-within
@@ -80,45 +80,45 @@ nonzero_rem-within c = omega (arith, some c.args.tensor.layout.precision c.group
 
 pub overflow_add-within : goal.overflow_add-within
 overflow_add-within c =
-    let p = pieces c.args.tensor.layout c.args.tensor.sizes c.requires c.group_size-group.ensures c.group_kernels-kernels.ensures c.min-channels.ensures in
+    let p = pieces c.args.tensor.layout c.args.tensor.sizes c.requires c.group_size-group.ensures c.group_kernels-kernels.ensures c.least-channels.ensures in
     omega (arith, pixel-kernels-le p, p.kernel_le)
 
 pub overflow_mul-within-2 : goal.overflow_mul-within-2
 overflow_mul-within-2 c =
-    let p = pieces c.args.tensor.layout c.args.tensor.sizes c.requires c.group_size-group.ensures c.group_kernels-kernels.ensures c.min-channels.ensures in
+    let p = pieces c.args.tensor.layout c.args.tensor.sizes c.requires c.group_size-group.ensures c.group_kernels-kernels.ensures c.least-channels.ensures in
     omega (arith, within-le p)
 
 pub overflow_add-within-2 : goal.overflow_add-within-2
 overflow_add-within-2 c =
-    let p = pieces c.args.tensor.layout c.args.tensor.sizes c.requires c.group_size-group.ensures c.group_kernels-kernels.ensures c.min-channels.ensures in
+    let p = pieces c.args.tensor.layout c.args.tensor.sizes c.requires c.group_size-group.ensures c.group_kernels-kernels.ensures c.least-channels.ensures in
     omega (arith, within-le p)
 
 pub overflow_cast-result : goal.overflow_cast-result
 overflow_cast-result c =
-    let p = pieces c.args.tensor.layout c.args.tensor.sizes c.requires c.group_size-group.ensures c.group_kernels-kernels.ensures c.min-channels.ensures in
+    let p = pieces c.args.tensor.layout c.args.tensor.sizes c.requires c.group_size-group.ensures c.group_kernels-kernels.ensures c.least-channels.ensures in
     omega (arith, groups-le p, blocks-le p)
 
 pub overflow_mul-result : goal.overflow_mul-result
 overflow_mul-result c =
-    let p = pieces c.args.tensor.layout c.args.tensor.sizes c.requires c.group_size-group.ensures c.group_kernels-kernels.ensures c.min-channels.ensures in
+    let p = pieces c.args.tensor.layout c.args.tensor.sizes c.requires c.group_size-group.ensures c.group_kernels-kernels.ensures c.least-channels.ensures in
     omega (arith, p.pixels_le)
 
 pub overflow_mul-result-2 : goal.overflow_mul-result-2
 overflow_mul-result-2 c =
-    let p = pieces c.args.tensor.layout c.args.tensor.sizes c.requires c.group_size-group.ensures c.group_kernels-kernels.ensures c.min-channels.ensures in
+    let p = pieces c.args.tensor.layout c.args.tensor.sizes c.requires c.group_size-group.ensures c.group_kernels-kernels.ensures c.least-channels.ensures in
     omega (arith, before-le p)
 
 pub overflow_cast-result-3 : goal.overflow_cast-result-3
 overflow_cast-result-3 c =
-    let p = pieces c.args.tensor.layout c.args.tensor.sizes c.requires c.group_size-group.ensures c.group_kernels-kernels.ensures c.min-channels.ensures in
+    let p = pieces c.args.tensor.layout c.args.tensor.sizes c.requires c.group_size-group.ensures c.group_kernels-kernels.ensures c.least-channels.ensures in
     omega (arith, within-le p)
 
 pub overflow_add-result : goal.overflow_add-result
 overflow_add-result c =
-    let p = pieces c.args.tensor.layout c.args.tensor.sizes c.requires c.group_size-group.ensures c.group_kernels-kernels.ensures c.min-channels.ensures in
+    let p = pieces c.args.tensor.layout c.args.tensor.sizes c.requires c.group_size-group.ensures c.group_kernels-kernels.ensures c.least-channels.ensures in
     omega (arith, before-le p, within-le p)
 
 pub returns : goal.returns
 returns c =
     let a = c.args in
-    joined a.tensor.layout a.index.kernel a.index.channel a.index.row a.index.column c.group_size-group.result c.group_kernels-kernels.result c.min-channels.result c.group_size-group.ensures c.group_kernels-kernels.ensures c.min-channels.ensures
+    joined a.tensor.layout a.index.kernel a.index.channel a.index.row a.index.column c.group_size-group.result c.group_kernels-kernels.result c.least-channels.result c.group_size-group.ensures c.group_kernels-kernels.ensures c.least-channels.ensures

@@ -28,85 +28,85 @@ pub overflow_mul-pixels : goal.overflow_mul-pixels
 overflow_mul-pixels c = omega (arith, pixels_le c.args.tensor.layout (valid c.args.tensor.layout c.args.tensor.sizes))
 
 pub run_width-width-requires : goal.run_width-width-requires
-run_width-width-requires c = (bound c.args.tensor.layout c.args.run c.args.tensor.sizes c.requires c.element_bytes-size.ensures c.group_kernels-kernels.ensures c.min-channels.ensures).pixel
+run_width-width-requires c = (bound c.args.tensor.layout c.args.run c.args.tensor.sizes c.requires c.element_bytes-size.ensures c.group_kernels-kernels.ensures c.least-channels.ensures).pixel
 
 pub overflow_add-from : goal.overflow_add-from
 overflow_add-from c =
-    let b = bound c.args.tensor.layout c.args.run c.args.tensor.sizes c.requires c.element_bytes-size.ensures c.group_kernels-kernels.ensures c.min-channels.ensures in
+    let b = bound c.args.tensor.layout c.args.run c.args.tensor.sizes c.requires c.element_bytes-size.ensures c.group_kernels-kernels.ensures c.least-channels.ensures in
     omega arith
 
 pub overflow_mul-from : goal.overflow_mul-from
 overflow_mul-from c =
-    let b = bound c.args.tensor.layout c.args.run c.args.tensor.sizes c.requires c.element_bytes-size.ensures c.group_kernels-kernels.ensures c.min-channels.ensures in
+    let b = bound c.args.tensor.layout c.args.run c.args.tensor.sizes c.requires c.element_bytes-size.ensures c.group_kernels-kernels.ensures c.least-channels.ensures in
     omega arith
 
 pub overflow_add-from-2 : goal.overflow_add-from-2
 overflow_add-from-2 c =
-    let b = bound c.args.tensor.layout c.args.run c.args.tensor.sizes c.requires c.element_bytes-size.ensures c.group_kernels-kernels.ensures c.min-channels.ensures in
+    let b = bound c.args.tensor.layout c.args.run c.args.tensor.sizes c.requires c.element_bytes-size.ensures c.group_kernels-kernels.ensures c.least-channels.ensures in
     omega arith
 
 pub overflow_cast-from : goal.overflow_cast-from
 overflow_cast-from c =
-    let b = bound c.args.tensor.layout c.args.run c.args.tensor.sizes c.requires c.element_bytes-size.ensures c.group_kernels-kernels.ensures c.min-channels.ensures in
+    let b = bound c.args.tensor.layout c.args.run c.args.tensor.sizes c.requires c.element_bytes-size.ensures c.group_kernels-kernels.ensures c.least-channels.ensures in
     omega arith
 
 pub overflow_mul-from-2 : goal.overflow_mul-from-2
 overflow_mul-from-2 c =
-    let b = bound c.args.tensor.layout c.args.run c.args.tensor.sizes c.requires c.element_bytes-size.ensures c.group_kernels-kernels.ensures c.min-channels.ensures in
+    let b = bound c.args.tensor.layout c.args.run c.args.tensor.sizes c.requires c.element_bytes-size.ensures c.group_kernels-kernels.ensures c.least-channels.ensures in
     omega arith
 
 pub overflow_mul-number : goal.overflow_mul-number
 overflow_mul-number c =
-    let b = bound c.args.tensor.layout c.args.run c.args.tensor.sizes c.requires c.element_bytes-size.ensures c.group_kernels-kernels.ensures c.min-channels.ensures in
+    let b = bound c.args.tensor.layout c.args.run c.args.tensor.sizes c.requires c.element_bytes-size.ensures c.group_kernels-kernels.ensures c.least-channels.ensures in
     omega arith
 
 pub overflow_mul-number-2 : goal.overflow_mul-number-2
 overflow_mul-number-2 c =
-    let b = bound c.args.tensor.layout c.args.run c.args.tensor.sizes c.requires c.element_bytes-size.ensures c.group_kernels-kernels.ensures c.min-channels.ensures in
+    let b = bound c.args.tensor.layout c.args.run c.args.tensor.sizes c.requires c.element_bytes-size.ensures c.group_kernels-kernels.ensures c.least-channels.ensures in
     omega arith
 
 pub overflow_add-number : goal.overflow_add-number
 overflow_add-number c =
-    let b = bound c.args.tensor.layout c.args.run c.args.tensor.sizes c.requires c.element_bytes-size.ensures c.group_kernels-kernels.ensures c.min-channels.ensures in
+    let b = bound c.args.tensor.layout c.args.run c.args.tensor.sizes c.requires c.element_bytes-size.ensures c.group_kernels-kernels.ensures c.least-channels.ensures in
     omega arith
 
 pub overflow_cast-number : goal.overflow_cast-number
 overflow_cast-number c =
-    let b = bound c.args.tensor.layout c.args.run c.args.tensor.sizes c.requires c.element_bytes-size.ensures c.group_kernels-kernels.ensures c.min-channels.ensures in
+    let b = bound c.args.tensor.layout c.args.run c.args.tensor.sizes c.requires c.element_bytes-size.ensures c.group_kernels-kernels.ensures c.least-channels.ensures in
     omega arith
 
 pub overflow_mul-number-3 : goal.overflow_mul-number-3
 overflow_mul-number-3 c =
-    let b = bound c.args.tensor.layout c.args.run c.args.tensor.sizes c.requires c.element_bytes-size.ensures c.group_kernels-kernels.ensures c.min-channels.ensures in
+    let b = bound c.args.tensor.layout c.args.run c.args.tensor.sizes c.requires c.element_bytes-size.ensures c.group_kernels-kernels.ensures c.least-channels.ensures in
     omega arith
 
 pub overflow_mul-number-4 : goal.overflow_mul-number-4
 overflow_mul-number-4 c =
-    let b = bound c.args.tensor.layout c.args.run c.args.tensor.sizes c.requires c.element_bytes-size.ensures c.group_kernels-kernels.ensures c.min-channels.ensures in
+    let b = bound c.args.tensor.layout c.args.run c.args.tensor.sizes c.requires c.element_bytes-size.ensures c.group_kernels-kernels.ensures c.least-channels.ensures in
     omega arith
 
 pub overflow_add-number-2 : goal.overflow_add-number-2
 overflow_add-number-2 c =
-    let b = bound c.args.tensor.layout c.args.run c.args.tensor.sizes c.requires c.element_bytes-size.ensures c.group_kernels-kernels.ensures c.min-channels.ensures in
+    let b = bound c.args.tensor.layout c.args.run c.args.tensor.sizes c.requires c.element_bytes-size.ensures c.group_kernels-kernels.ensures c.least-channels.ensures in
     omega arith
 
 pub overflow_mul-at : goal.overflow_mul-at
 overflow_mul-at c =
-    let b = bound c.args.tensor.layout c.args.run c.args.tensor.sizes c.requires c.element_bytes-size.ensures c.group_kernels-kernels.ensures c.min-channels.ensures in
+    let b = bound c.args.tensor.layout c.args.run c.args.tensor.sizes c.requires c.element_bytes-size.ensures c.group_kernels-kernels.ensures c.least-channels.ensures in
     omega arith
 
 pub returns-then-pixels-eq1 : goal.returns-then-pixels-eq1
-returns-then-pixels-eq1 c = channel-columns c.args.tensor.layout (valid c.args.tensor.layout c.args.tensor.sizes) c.args.run c.requires (numbers c.args.tensor.layout c.args.run c.args.tensor.sizes c.requires c.element_bytes-size.ensures c.group_kernels-kernels.ensures c.min-channels.ensures) c.run_width-width.ensures c.if-pixels-eq1.true
+returns-then-pixels-eq1 c = channel-columns c.args.tensor.layout (valid c.args.tensor.layout c.args.tensor.sizes) c.args.run c.requires (numbers c.args.tensor.layout c.args.run c.args.tensor.sizes c.requires c.element_bytes-size.ensures c.group_kernels-kernels.ensures c.least-channels.ensures) c.run_width-width.ensures c.if-pixels-eq1.true
 
 pub overflow_mul-result : goal.overflow_mul-result
 overflow_mul-result c =
-    let b = bound c.args.tensor.layout c.args.run c.args.tensor.sizes c.requires c.element_bytes-size.ensures c.group_kernels-kernels.ensures c.min-channels.ensures in
+    let b = bound c.args.tensor.layout c.args.run c.args.tensor.sizes c.requires c.element_bytes-size.ensures c.group_kernels-kernels.ensures c.least-channels.ensures in
     omega arith
 
 pub overflow_mul-result-2 : goal.overflow_mul-result-2
 overflow_mul-result-2 c =
-    let b = bound c.args.tensor.layout c.args.run c.args.tensor.sizes c.requires c.element_bytes-size.ensures c.group_kernels-kernels.ensures c.min-channels.ensures in
+    let b = bound c.args.tensor.layout c.args.run c.args.tensor.sizes c.requires c.element_bytes-size.ensures c.group_kernels-kernels.ensures c.least-channels.ensures in
     omega arith
 
 pub returns : goal.returns
-returns c = pixel-columns c.args.tensor.layout (valid c.args.tensor.layout c.args.tensor.sizes) c.args.run c.requires (numbers c.args.tensor.layout c.args.run c.args.tensor.sizes c.requires c.element_bytes-size.ensures c.group_kernels-kernels.ensures c.min-channels.ensures) c.run_width-width.ensures c.if-pixels-eq1.false
+returns c = pixel-columns c.args.tensor.layout (valid c.args.tensor.layout c.args.tensor.sizes) c.args.run c.requires (numbers c.args.tensor.layout c.args.run c.args.tensor.sizes c.requires c.element_bytes-size.ensures c.group_kernels-kernels.ensures c.least-channels.ensures) c.run_width-width.ensures c.if-pixels-eq1.false
