@@ -16,7 +16,7 @@ fn size(precision: u64) -> usize
 pub(crate) fn full(precision: u64) -> u64
     ensures { result ≡ atom_elements precision }
 {
-    32 / size(precision) as u64
+    if precision == 0 { 32 } else { 16 }
 }
 
 // The element at an index, 0 where there is none.
@@ -51,10 +51,12 @@ pub(crate) fn bytes_of(
     let n = full(precision).min(channels);
     let mut bytes = [0u8; 32];
     let mut i = index;
-    for j in 0..n {
-        write_element(e, element(elements, i), j as usize * e, &mut bytes);
+    let mut k: usize = 0;
+    for _j in 0..n {
+        write_element(e, element(elements, i), k, &mut bytes);
         // past 64 bits there is no element either
         i = i.saturating_add(plane);
+        k += e;
     }
     bytes
 }

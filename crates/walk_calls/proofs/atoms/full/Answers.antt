@@ -1,14 +1,10 @@
--- `walk_calls::atoms::full` meets its contract: it divides by the element's size, 1 or 2. Assumes nothing.
-use Prim.Native.Nat.{ℕ, ◌/◌}
-use native.Mathlib.Omega.{arith}
-use mathlib.Core.Path.{ap}
-use Rattle.elements.proofs.ByteLaws.{element_bytes-pos}
-use Rattle.walk.specs.Walks.{atom_elements}
+-- `walk_calls::atoms::full` meets its contract: its test is that of the element's size. Assumes nothing.
+use mathlib.Core.Path.{sym}
+use Rattle.walk.proofs.SizeLaws.{atom_elements-int8, atom_elements-other}
 use Rattle.walk_calls.proofs.atoms.full.Goals as goal
 
-pub nonzero_div-result : goal.nonzero_div-result
-nonzero_div-result c = omega (arith, c.size.ensures, element_bytes-pos c.args.precision)
+pub returns-then-precision-eq0 : goal.returns-then-precision-eq0
+returns-then-precision-eq0 c = sym (atom_elements-int8 c.args.precision c.if-precision-eq0.true)
 
-pub returns : goal.returns
-unfolding atom_elements
-returns c = ap (λ (e : ℕ). 32 / e) c.size.ensures
+pub returns-else-precision-eq0 : goal.returns-else-precision-eq0
+returns-else-precision-eq0 c = sym (atom_elements-other c.args.precision c.if-precision-eq0.false)
