@@ -54,12 +54,13 @@ pub(crate) fn levels(k: Conversion, precision: u32) -> [Converted; 256]
 }
 
 impl Painter {
-    // The component that begins at p, converted; one of a byte is looked up.
-    fn converted_at(&self, pixels: &[u8], p: usize) -> Converted
-        requires { p + self.now.size ≤ length pixels.now }
+    // The component of `size` bytes that begins at p, converted; one of a byte is looked up. The size by value: a run reads it once, and not for each
+    // component.
+    fn converted_at(&self, size: u32, pixels: &[u8], p: usize) -> Converted
+        requires { (size ≡ self.now.size) × (p + self.now.size ≤ length pixels.now) }
         ensures { result ≡ conversion (component_at self.now.image.format pixels.now p) self.now.conversion.offset self.now.conversion.scale self.now.conversion.shift self.now.layout.precision }
     {
-        if self.size == 1 {
+        if size == 1 {
             return self.levels[pixels[p] as usize];
         }
         let d = component(self.image.format, pixels, p);
@@ -80,12 +81,15 @@ impl Painter {
         ensures converted { tile.new ≡ bytes_set (run_element self.now.image.format self.now.conversion self.now.layout.precision pixels.now at (self.now.image.channels * self.now.size)) count from tile.old }
         ensures counted { result ≡ run_held self.now.image.format self.now.conversion self.now.layout.precision pixels.now at (self.now.image.channels * self.now.size) count }
     {
-        let step = self.image.channels as usize * self.size as usize;
+        let size = self.size;
+        let step = self.image.channels as usize * size as usize;
         let mut held: u64 = 0;
+        let mut p = at;
         for i in 0..count {
-            let c = self.converted_at(pixels, at + step * i);
+            let c = self.converted_at(size, pixels, p);
             tile[from + i] = c.value;
             held += c.held as u64;
+            p += step;
         }
         held
     }
