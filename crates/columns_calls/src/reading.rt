@@ -1,6 +1,6 @@
 // Reading: the rows of a strip of columns, band by band, and the strips of a block.
-ghost use Rattle.std.specs.Prelude.{◌≡◌, ◌+◌, ◌*◌, ◌≤◌, length};
-ghost use Rattle.columns.specs.Columns.{bytes_set, column_element, rows_read};
+ghost use Rattle.std.specs.Prelude.{◌≡◌, ◌+◌, ◌-◌, ◌*◌, ◌≤◌, length};
+ghost use Rattle.columns.specs.Columns.{bytes_set, columns, column_element, tile_element, rows_read};
 
 use crate::place::{ElementSize, Place};
 use crate::tiles;
@@ -22,6 +22,21 @@ fn read_row(place: Place, buffer: &[u8], count: usize, elements: &mut [i16])
     }
 }
 
+// The rows of a tile. The size is told as a number, so that the built loops over a strip's columns test none.
+fn split_band(place: Place, tile: &[u16; 256], count: usize, elements: &mut [i16])
+    requires sizes { (count ≤ 64) × (count ≤ place.plane) }
+    requires rows_in { place.from + 4 * ((3 - place.size.bytes) * place.plane) + count ≤ length elements.old + place.plane }
+    ensures { elements.new ≡ columns (tile_element place.size.bytes tile.now) count (4 * (3 - place.size.bytes)) place.from place.plane elements.old }
+{
+    if place.size.bytes == 1 {
+        let one = ElementSize { bytes: 1 };
+        tiles::split_tile(one, tile, count, elements, place.from, place.plane);
+        return;
+    }
+    let two = ElementSize { bytes: 2 };
+    tiles::split_tile(two, tile, count, elements, place.from, place.plane);
+}
+
 // The next rows: as many as fill eight bytes of a column, or else one; gives how many.
 fn read_some(
     place: Place,
@@ -41,11 +56,7 @@ fn read_some(
     let unit = 3 - place.size.bytes;
     if 4 * unit <= rows {
         tiles::read_tile(place, buffer, count, tile);
-        let step = unit as usize * place.plane;
-        for j in 0..4 {
-            let from = place.from + j * step;
-            tiles::split_unit(place.size, tile, j, count, elements, from, place.plane);
-        }
+        split_band(place, tile, count, elements);
         return 4 * unit;
     }
     read_row(place, buffer, count, elements);

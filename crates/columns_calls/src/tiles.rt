@@ -1,7 +1,7 @@
 // Tiles: two bytes of a column are a unit; four units of each of at most 64 columns, or two of at most 128, are gathered in a tile, so that rows of
 // elements become columns of bytes and columns become rows.
 ghost use Rattle.std.specs.Prelude.{◌≡◌, ℕ, ◌+◌, ◌-◌, ◌*◌, ◌/◌, ◌%◌, ◌≤◌, ◌<◌, length, get_or, set};
-ghost use Rattle.columns.specs.Columns.{columns, column_unit, tile_byte, listed, Unit_is, unit_element, unit_row};
+ghost use Rattle.columns.specs.Columns.{columns, column_unit, tile_byte, tile_element, listed, Unit_is, unit_element, unit_row};
 
 use crate::place::{ElementSize, Place};
 
@@ -125,5 +125,25 @@ pub(crate) fn split_unit(
 {
     for i in 0..count {
         split_one(size, tile[4 * i + j], elements, from + i, plane);
+    }
+}
+
+// The rows of all units of each column of a tile, from element `from` on. Built into its callers, for the size that each tells.
+#[inline(always)]
+pub(crate) fn split_tile(
+    size: ElementSize,
+    tile: &[u16; 256],
+    count: usize,
+    elements: &mut [i16],
+    from: usize,
+    plane: usize,
+)
+    requires sizes { (count ≤ 64) × (count ≤ plane) }
+    requires rows_in { from + 4 * ((3 - size.bytes) * plane) + count ≤ length elements.old + plane }
+    ensures { elements.new ≡ columns (tile_element size.bytes tile.now) count (4 * (3 - size.bytes)) from plane elements.old }
+{
+    let step = (3 - size.bytes) as usize * plane;
+    for j in 0..4 {
+        split_unit(size, tile, j, count, elements, from + j * step, plane);
     }
 }
