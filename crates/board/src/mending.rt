@@ -17,11 +17,11 @@ pub fn part(line: u64, mut n: Numbers, sums: bool, buffer: &mut [u8]) -> Result<
     let p = n.index();
     let o = n.index();
     let before = n.natural();
-    let mut positions = [u64::from(before); MOST_PLACES];
-    let mut olds = [(before & 0xff) as u8; MOST_PLACES];
     if MOST_PLACES < p || MOST_PLACES < o {
         return Err(Unmade::Unreadable);
     }
+    let mut positions = [u64::from(before); MOST_PLACES];
+    let mut olds = [(before & 0xff) as u8; MOST_PLACES];
     let positions = &mut positions[..p];
     let olds = &mut olds[..o];
     let count = padding_calls::mend(layout, first, length, buffer, positions, olds);
