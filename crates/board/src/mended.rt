@@ -1,5 +1,5 @@
 // A whole file mended: the buffer in parts, held against the whole in one part (change request K8).
-ghost use Rattle.std.specs.Prelude.{◌<◌};
+ghost use Rattle.std.specs.Prelude.{◌<◌, ◌≤◌, length};
 
 use crate::answers::print_answer;
 use crate::line::Unmade;
@@ -118,15 +118,12 @@ impl Report<'_> {
     }
 }
 
-// `mend file W.. size`: the buffer is a whole file, of at most 65536 bytes. Mends it in parts; prints the answer, the number of bytes that were reported, the checksum of the
-// report, and whether the whole in one part and the mended file do as they must; then the buffer, or its checksum.
-pub fn file(line: u64, mut n: Numbers, sums: bool, buffer: &mut [u8]) -> Result<(), Unmade> {
-    let layout = n.cube_layout();
-    let size = n.index();
+// Mends the buffer, a whole file, in parts; prints the answer, the number of bytes that were reported, the checksum of the report, and whether the whole in one part and the mended file do as
+// they must. A function of its own: its lists are filled where it begins, so no refused line fills them.
+fn mend(line: u64, layout: CubeLayout, size: usize, buffer: &mut [u8])
+    requires { (0 < size) × (length buffer.old ≤ 65536) }
+{
     let mut other = [0; MOST_BYTES];
-    if size == 0 || MOST_BYTES < size || MOST_BYTES < buffer.len() {
-        return Err(Unmade::Unreadable);
-    }
     let other = &mut other[..buffer.len()];
     other.copy_from_slice(buffer);
     let mut positions = [0; MOST_BYTES];
@@ -142,6 +139,16 @@ pub fn file(line: u64, mut n: Numbers, sums: bool, buffer: &mut [u8]) -> Result<
     print_natural(parts.count);
     parts.sum.print();
     print_same(whole && clean);
+}
+
+// `mend file W.. size`: the buffer is a whole file, of at most 65536 bytes. Mends it, and prints the buffer, or its checksum.
+pub fn file(line: u64, mut n: Numbers, sums: bool, buffer: &mut [u8]) -> Result<(), Unmade> {
+    let layout = n.cube_layout();
+    let size = n.index();
+    if size == 0 || MOST_BYTES < size || MOST_BYTES < buffer.len() {
+        return Err(Unmade::Unreadable);
+    }
+    mend(line, layout, size, buffer);
     tell(sums, buffer);
     Ok(())
 }

@@ -89,10 +89,11 @@ module _ (at m : ℕ) (l : List ℕ) (room : at + m ≤ length l) where
   unfolding filled
   filled-length = simp (length-append, length-replicate, length-drop) (omega (arith, head-long))
 
-pub cleared-filled : (at m n : ℕ) (l : List ℕ) → at < length l → m ≡ min n (length l - at) → take at l ++ (replicate m 0 ++ drop m (drop at l)) ≡ cleared at n l
+pub cleared-filled : (at m n : ℕ) (z l : List ℕ) → at < length l → z ≡ replicate m 0 → m ≡ min n (length l - at) → take at l ++ (z ++ drop m (drop at l)) ≡ cleared at n l
 unfolding filled
-cleared-filled at m n l some is =
+cleared-filled at m n z l some zeros is =
     let room : at + m ≤ length l = omega arith in
-    cleared-unique at n l (filled at m l room) (filled-length at m l room)
+    ap (λ (y : List ℕ). take at l ++ (y ++ drop m (drop at l))) zeros
+    ∙ cleared-unique at n l (filled at m l room) (filled-length at m l room)
     (λ p lt low high. filled-in at m l room p low (omega arith))
     (λ p lt o. ⊎_elim (λ h. filled-low at m l room p h) (λ h. filled-high at m l room p (omega arith)) o)

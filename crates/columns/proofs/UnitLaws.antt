@@ -173,11 +173,11 @@ module _ (units : ℕ) (tile : List ℕ) (i : ℕ) where
       let m : (2 * j + 1) % 2 ≡ 1 = omega arith in
       rw (d, m, ← e) (omega arith)
 
-  pub tile-unit-bytes : (j u p q : ℕ) {buf after : List ℕ} (before : List ℕ) → u ≡ get_or tile (units * i + j) 0 → u < 65536 → q ≡ p + 2 * j
-      → buf ≡ bytes_set (tile_byte units tile i) (2 * j) p before → after ≡ set (set buf q (u % 256)) (q + 1) (u / 256)
+  pub tile-unit-bytes : (j u p q : ℕ) {buf after : List ℕ} (before : List ℕ) → buf ≡ bytes_set (tile_byte units tile i) (2 * j) p before
+      → after ≡ set (set buf q (u % 256)) (q + 1) (u / 256) → u ≡ get_or tile (units * i + j) 0 → u < 65536 → q ≡ p + 2 * j
       → after ≡ bytes_set (tile_byte units tile i) (2 * (j + 1)) p before
   unfolding bytes_set
-  tile-unit-bytes j u p q before e h hq hb ha =
+  tile-unit-bytes j u p q before hb ha e h hq =
       let two : 2 * (j + 1) ≡ suc (suc (2 * j)) = omega arith in
       let q1 : q + 1 ≡ p + suc (2 * j) = omega arith in
       let high : u / 256 ≡ tile_byte units tile i (suc (2 * j)) = high_byte j u e h ∙ ap (tile_byte units tile i) (add-one (2 * j)) in

@@ -3,7 +3,7 @@
 
 ghost use Rattle.std.specs.Prelude.{◌≡◌, min};
 
-// The lesser of two numbers. Kept beside std's `min`, which it calls: the must-fail edit the_greater stands on it.
+// The lesser of two numbers, in one place for the three crates that call it.
 pub fn least(a: u32, b: u32) -> u32
     ensures { result ≡ min a b }
 {

@@ -5,6 +5,8 @@ use mathlib.Core.Path.{◌≡◌, sym, ap, ◌∙◌}
 use mathlib.Core.Bool.{true}
 use native.Mathlib.Omega.{arith}
 use borrow.Author.Tests.{le-ltb}
+use mir.Syntax.{w16}
+use mir.Val.{to_z, of_z}
 use lib.Dec.{ltb}
 use lib.IntN.{ℤ, pos}
 use lib.ListN.{length, get_or}
@@ -20,7 +22,9 @@ returns-then-limit-raised c =
     let l = c.loop-at in
     let a = c.args in
     let x = read_back (get_or a.elements.now l.at (pos 0)) c.x-1.given in
-    ap (λ (n : ℕ). ltb c.raised.result n) c.limit.ensures ∙ c.raised.ensures ∙ ap (λ (z : ℤ). value_valid a.precision z) x in
+    ap (λ (n : ℕ). ltb c.raised.result n) c.limit.ensures ∙ c.raised.ensures
+    ∙ ap (λ (n : ℕ). value_valid a.precision (to_z w16 (of_z w16 (get_or a.elements.now n (pos 0))))) (omega arith)
+    ∙ ap (λ (z : ℤ). value_valid a.precision z) x in
     let r = c in
     let l = r.loop-at in
     let a = r.args in

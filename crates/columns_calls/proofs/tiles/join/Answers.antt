@@ -37,5 +37,5 @@ loop-j-preserved g c =
       simp length-set c.loop-j.invariant.0,
       held_more (λ (x : ℕ) (k : ℕ) (v : ℕ). v ≡ column_unit a.place.size.bytes src a.place.from a.place.plane x k) g.row.UNITS c.loop-j.tile i j c.unit.result (omega arith)
           (omega (arith, room, c.loop-j.invariant.0)) c.loop-j.invariant.1
-          (c.unit.ensures ∙ unit-at a.place.size.bytes a.place.size.one_or_two.0 a.place.size.one_or_two.1 src a.place.from a.place.plane i j (a.place.from + i + j * c.if-place-eq1.step) (omega (arith, ap (λ (n : ℕ). j * n) step_is))),
+          (c.unit.ensures ∙ unit-at a.place.size.bytes a.place.size.one_or_two.0 a.place.size.one_or_two.1 src a.place.from a.place.plane i j _ (omega (arith, ap (λ (n : ℕ). j * n) step_is))),
     )

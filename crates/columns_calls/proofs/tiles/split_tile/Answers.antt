@@ -3,7 +3,7 @@ use Prim.Native.Nat.{ℕ, ◌+◌, ◌-◌, ◌*◌}
 use native.Mathlib.Omega.{arith}
 use native.Mathlib.Nat.{mul-le-mul_right}
 use mathlib.Core.Path.{◌≡◌, refl, ap, ◌∙◌}
-use Rattle.columns.specs.Columns.{columns, tile_element}
+use Rattle.columns.specs.Columns.{columns, tile_element, unit_row}
 use Rattle.columns.proofs.ReadLaws.{split-start, split-more}
 use Rattle.columns_calls.proofs.tiles.split_tile.Goals as goal
 
@@ -23,7 +23,8 @@ loop-j-preserved c =
     let a = c.args in
     let j = c.loop-j.j in
     split-more a.size.bytes a.size.one_or_two.0 a.size.one_or_two.1 a.tile.now a.count a.from a.plane c.requires.sizes.1 j ((j + 1) * (3 - a.size.bytes)) (a.from + j * ((3 - a.size.bytes) * a.plane))
-    a.elements.now refl refl c.loop-j.invariant c.split_unit.ensures
+    a.elements.now refl refl c.loop-j.invariant
+    (c.split_unit.ensures ∙ ap (λ (n : ℕ). columns (unit_row a.size.bytes a.tile.now n) a.count (3 - a.size.bytes) (a.from + j * ((3 - a.size.bytes) * a.plane)) a.plane c.loop-j.elements) (omega arith))
 
 pub returns : goal.returns
 returns c =

@@ -1,7 +1,7 @@
 -- `columns_calls::tiles::write_tile` meets its contract: the units of the first i columns are written, then the first j of column i. Assumes nothing.
 use Prim.Native.Nat.{ℕ, ◌+◌, ◌*◌}
 use native.Mathlib.Omega.{arith}
-use mathlib.Core.Path.{◌≡◌, refl, ap, ◌∙◌}
+use mathlib.Core.Path.{◌≡◌, ap, ◌∙◌}
 use Rattle.columns.specs.Columns.{bytes_set, tile_byte}
 use Rattle.columns.proofs.ColumnLaws.{columns-none}
 use Rattle.columns.proofs.UnitLaws.{columns-step, tile-unit-bytes}
@@ -18,7 +18,7 @@ pub loop-j-preserved : goal.loop-j-preserved
 loop-j-preserved g c =
     let a = c.args in
     let p = a.place.at + a.place.stride * c.loop-i.i in
-    tile-unit-bytes g.row.UNITS a.tile.now c.loop-i.i c.loop-j.j _ p (p + 2 * c.loop-j.j) c.loop-i.buffer refl (omega arith) refl c.loop-j.invariant c.put_unit.ensures
+    tile-unit-bytes g.row.UNITS a.tile.now c.loop-i.i c.loop-j.j _ p _ c.loop-i.buffer c.loop-j.invariant c.put_unit.ensures (omega arith) (omega arith) (omega arith)
 
 pub loop-i-preserved : goal.loop-i-preserved
 loop-i-preserved g c =
