@@ -25,4 +25,4 @@ pub returns : goal.returns
 returns c =
     let whole : c.loop-x.x-index ≡ length c.args.elements.now = omega arith in
     let seen = c.loop-x.invariant in
-    ap (λ (n : ℕ). ltb c.loop-x.seen n) c.limit.ensures ∙ (rw whole at seen)
+    ap (λ (n : ℕ). ltb c.loop-x.seen n) (c.limit.ensures ∙ ap (λ (p : ℕ). 2 ^ low_bits p) {y = c.args.precision} (omega arith)) ∙ (rw whole at seen)

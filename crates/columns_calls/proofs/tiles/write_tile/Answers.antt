@@ -18,7 +18,7 @@ pub loop-j-preserved : goal.loop-j-preserved
 loop-j-preserved g c =
     let a = c.args in
     let p = a.place.at + a.place.stride * c.loop-i.i in
-    tile-unit-bytes g.row.UNITS a.tile.now c.loop-i.i c.loop-j.j _ p _ c.loop-i.buffer c.loop-j.invariant c.put_unit.ensures (omega arith) (omega arith) (omega arith)
+    tile-unit-bytes g.row.UNITS a.tile.now c.loop-i.i c.loop-j.j _ p _ c.loop-i.buffer c.loop-j.invariant c.put_unit.ensures (grind arith) (omega arith) (omega arith)
 
 pub loop-i-preserved : goal.loop-i-preserved
 loop-i-preserved g c =

@@ -1,5 +1,5 @@
 -- `columns_calls::writing::write_strips` meets its contract. The loop's invariant: the first `done` columns are written. Assumes nothing.
-use Prim.Native.Nat.{ℕ, ◌+◌, ◌*◌}
+use Prim.Native.Nat.{ℕ, ◌*◌}
 use native.Mathlib.Omega.{arith}
 use mathlib.Core.Path.{◌≡◌, refl, ap, ◌∙◌}
 use lib.Dec.{eqb}
@@ -53,7 +53,7 @@ loop-done-preserved c =
     let a = c.args in (
       omega (arith, c.min-columns.ensures),
       written-strip a.place.size.bytes (listed a.elements.now) a.place.from a.place.plane a.rows a.place.at a.place.stride c.requires.columns_in.1 c.loop-done.done c.min-columns.result
-          (a.place.from + c.loop-done.done) a.buffer.now refl c.loop-done.invariant.1 c.write_rows.ensures,
+          _ a.buffer.now (omega arith) c.loop-done.invariant.1 c.write_rows.ensures,
     )
 
 pub returns : goal.returns
