@@ -1,7 +1,10 @@
 -- `cube::write::all` meets its contract. The outer loop's invariant: the buffer came toward what it is to become, and reached it in the channels
 -- before n; the inner one's: whatever it is to become, since the loop began it came nearer, and reached it in the rows before r. Assumes nothing.
-use Prim.Native.Nat.{ℕ, ◌+◌, ◌-◌, ◌*◌, ◌%◌, ◌≤◌}
+use Prim.Native.Nat.{ℕ, ◌+◌, ◌-◌, ◌*◌, ◌%◌, ◌<◌, ◌≤◌}
 use native.Mathlib.Omega.{arith}
+use native.Mathlib.Decide.{dec_lt}
+use native.Mathlib.Nat.{mul-le-mul_right}
+use borrow.Author.Tests.{lt-ltb, le-ltb}
 use mathlib.Core.Path.{◌≡◌, refl, sym, ap, subst, subst⁻¹, ◌∙◌}
 use mathlib.Core.Bool.{Bool, true, cond, ◌&&◌}
 use mathlib.Core.List.{List}
@@ -35,6 +38,13 @@ atom_end-m-requires g c =
 pub row-block-requires-clause-b_value : goal.row-block-requires-clause-b_value
 row-block-requires-clause-b_value g c = let a = c.args in clear-front a.layout a.b (length a.buffer.now) c.requires.buffer_value
 
+-- two tests that are met by the same numbers
+agree : (k x : ℕ) → (k < 32 → x < 32) → (x < 32 → k < 32) → ltb k 32 ≡ ltb x 32
+agree k x f g = elim (dec_lt x 32) [
+  | yes h ↦ lt-ltb k 32 (g h) ∙ sym (lt-ltb x 32 h)
+  | no h ↦ elim (dec_lt k 32) [ yes i ↦ absurd (h (f i)) | no i ↦ le-ltb k 32 (omega (arith, i)) ∙ sym (le-ltb x 32 (omega (arith, h))) ]
+]
+
 -- one turn of the rows' loop: where its atoms are to be cleared, they are cleared before the row is written
 pub loop-r-preserved : goal.loop-r-preserved
 unfolding row_written
@@ -52,11 +62,19 @@ loop-r-preserved o c = λ before g h w.
     let so = c.loop-r.invariant before g h w in
     let room = subst (λ (x : ℕ). a.layout.start + cube_extent a.layout ≤ x) (sym c.loop-n.invariant.2.long ∙ h) d.room in
     let made : Bool → List ℕ = λ x. cond x (cleared b.at (32 * b.count) c.loop-r.buffer) c.loop-r.buffer in
-    let fill : pad o && ltb ((m - n) * c.element_bytes-e.result) 32 ≡ clears = ap (λ (e : ℕ). pad o && ltb ((m - n) * e) 32) c.element_bytes-e.ensures in
+    let bytes = (m - n) * c.element_bytes-e.result in
+    let some : 1 ≤ bytes = omega (
+      arith,
+      mul-le-mul_right {m = 1} {n = m - n} c.element_bytes-e.result (omega (arith, c.atom_end-m.ensures.some)),
+      subst⁻¹ (λ (e : ℕ). 1 ≤ e) c.element_bytes-e.ensures (element_bytes-pos a.layout.precision),
+    ) in
+    let fill : (k : ℕ) → (k < 32 → bytes < 32) → (bytes < 32 → k < 32) → pad o && ltb k 32 ≡ clears =
+    λ k f g. ap (λ (b : Bool). pad o && b) (agree k bytes f g) ∙ ap (λ (e : ℕ). pad o && ltb ((m - n) * e) 32) c.element_bytes-e.ensures in
+    let whole = c.atom_end-m.ensures.one in
     let came : c.if-clear.buffer ≡ made clears =
     elim c.if-clear.branch [
-      | then-clear w ↦ w.buffer-is ∙ w.clear.ensures ∙ ap made (sym w.if-clear.true ∙ fill)
-      | else-clear w ↦ w.buffer-is ∙ ap made (sym w.if-clear.false ∙ fill)
+      | then-clear w ↦ w.buffer-is ∙ w.clear.ensures ∙ ap made (sym w.if-clear.true ∙ fill _ (λ h. omega (arith, h, some, whole)) (λ h. omega (arith, h, some, whole)))
+      | else-clear w ↦ w.buffer-is ∙ ap made (sym w.if-clear.false ∙ fill _ (λ h. omega (arith, h, some, whole)) (λ h. omega (arith, h, some, whole)))
     ] in
     let is : after ≡ row_written (row_block a.layout a.b a.spacing.plane a.spacing.line n m r) clears a.elements.now c.loop-r.buffer =
     c.write.ensures ∙ ap (block_written b a.elements.now) came ∙ ap (λ (x : ColumnBlock). row_written x clears a.elements.now c.loop-r.buffer) c.row-block.ensures in

@@ -37,4 +37,4 @@ returns c =
     bit _ ∙ ap₂ (λ (u v : ℤ). cond (le_z u v) 1 0) (back64 s.first c.struct_told-1.given.0.1) same in
     let last : bool_byte (lt_z (to_z w64 (of_z w64 s.last)) x) ≡ cond (lt_z s.last c.args.x) 1 0 =
     bit _ ∙ ap₂ (λ (u v : ℤ). cond (lt_z u v) 1 0) (back64 s.last c.struct_told-2-1.given.1.0.1) same in
-    omega (arith, first, last)
+    omega (arith, first, last, bit_le (le_z (to_z w64 (of_z w64 s.first)) x), bit_le (lt_z (to_z w64 (of_z w64 s.last)) x))
